@@ -1,0 +1,141 @@
+-- The edges of the rules, each computed: what a sentence of document 01 decides where two readings of it would differ.
+-- Assumes nothing.
+use Prim.Native.Nat.{ℕ}
+use mathlib.Core.Path.{_≡_, refl}
+use mathlib.Core.Bool.{Bool, true, false}
+use mathlib.Core.List.{List, [], _∷_, _++_, map}
+use lib.ListN.{replicate}
+use Prim.Native.String.{String}
+use Rattle.standard.specs.Characters.{bytes, isDigit, digitValue, padded}
+use Rattle.standard.specs.Addresses.{addressIn, index}
+use Rattle.standard.specs.Judgement.{overlap}
+use Rattle.standard.specs.Pieces.{Block, lostBlock, held, Format, fixed, variable, spanned, number4, kindOf, lookF, lookV, lookS, look, walk, pieces, inBlock, inBlocks, ahead}
+use Rattle.standard.specs.Records.{plain, salvage, File, Record, Met, took, ended, refused, refuse20, refuse21, refuse22, answer, step, Item, rec, gap, end, no, enough, readOn, readAll}
+use Rattle.standard.specs.Packing.{Packing, recordV, segment, lay, layOne, spread, layS, pack}
+use Rattle.standard.specs.declared.Geometry.{Geometry}
+use Rattle.standard.specs.declared.Place.{Place}
+
+-- files of V with R = 8, of S with some R, of F with some R; a block of a text and so many bytes of fill behind it
+abbrev ofV : Bool → List Block → File
+ofV blocked blocks = record { params = record { format = variable; R = 8; blocked = blocked }; blocks = blocks }
+
+abbrev ofS : ℕ → List Block → File
+ofS R blocks = record { params = record { format = spanned; R = R; blocked = true }; blocks = blocks }
+
+abbrev ofF : ℕ → List Block → File
+ofF R blocks = record { params = record { format = fixed; R = R; blocked = true }; blocks = blocks }
+
+abbrev text : String → ℕ → Block
+text s fill = held (bytes s ++ replicate fill 0)
+
+abbrev place : ℕ → ℕ → Bool → Place
+place b o mark = record { block = b; offset = o; mark = mark }
+
+abbrev body : String → ℕ → ℕ → Record
+body s first last = record { body = bytes s; firstBlock = first; lastBlock = last }
+
+-- V, two records to a block
+abbrev twoV : Block
+twoV = text "0006AB0005C" 0
+
+pub edges-V :
+    -- "Reading a place gives the record and the place right behind it."
+    (step plain (ofV true (twoV ∷ [])) (place 0 6 false) ≡ took (body "C" 0 0) (place 0 11 false))
+    -- "A place at the end of a block's content goes on in the next block"
+    × (step plain (ofV true (twoV ∷ text "0006AB" 0 ∷ [])) (place 0 11 false) ≡ took (body "AB" 1 1) (place 1 6 false))
+    -- "but any place of a lost block, its end included, meets that block."
+    × (step plain (ofV true (lostBlock 11 ∷ text "0006AB" 0 ∷ [])) (place 0 11 false) ≡ refused (refuse20 0))
+    -- "if unblocked, at offsets above 0 only fill"
+    × (step plain (ofV false (twoV ∷ [])) (place 0 6 false) ≡ refused (refuse21 0 6))
+    -- "four digits, from 4 to R"; "inside the content"
+    × (step plain (ofV true (text "0009ABCDE" 0 ∷ [])) (place 0 0 false) ≡ refused (refuse21 0 0))
+    × (step plain (ofV true (text "0008ABC" 0 ∷ [])) (place 0 0 false) ≡ refused (refuse21 0 0))
+    -- "with fewer than 4 bytes left [..] the rest must be fill"
+    × (step plain (ofV true (text "0006AB0" 0 ∷ [])) (place 0 6 false) ≡ refused (refuse21 0 6))
+    × (step plain (ofV true (text "0006AB" 3 ∷ [])) (place 0 6 false) ≡ ended)
+    -- "block = count only with offset 0, and answers End"
+    × (step plain (ofV true (twoV ∷ [])) (place 1 0 false) ≡ ended)
+unfolding isDigit digitValue number4 lookV look walk pieces inBlock inBlocks ahead answer step
+edges-V = (refl, refl, refl, refl, refl, refl, refl, refl, refl)
+
+-- S, a record over blocks 0 to 3, one of them fill alone
+abbrev longS : List Block
+longS = text "10007AB" 3 ∷ text "" 10 ∷ text "20007CD" 0 ∷ text "30007EF00005" 0 ∷ []
+
+pub edges-S :
+    -- "A block of fill alone holds nothing."
+    (readAll plain (ofS 0 longS) ≡ rec (body "ABCDEF" 0 3) ∷ rec (body "" 3 3) ∷ end ∷ [])
+    -- "A body over R (unless 0000) breaks the rule at the segment where it first exceeds."
+    × (readAll plain (ofS 3 longS) ≡ no (refuse21 2 0) ∷ [])
+    -- "After 1 or 2 the rest of the block is fill": 21 names the rest; a body over R is named first, at its segment
+    × (readAll plain (ofS 0 (text "10007AB00005" 0 ∷ [])) ≡ no (refuse21 0 7) ∷ [])
+    × (readAll plain (ofS 1 (text "10007AB00005" 0 ∷ [])) ≡ no (refuse21 0 0) ∷ [])
+    -- "the next segment must be 2 or 3; otherwise it must be 0 or 1"
+    × (readAll plain (ofS 0 (text "10007AB" 0 ∷ text "10007CD" 0 ∷ [])) ≡ no (refuse21 1 0) ∷ [])
+    × (readAll plain (ofS 0 (text "30007AB" 0 ∷ [])) ≡ no (refuse21 0 0) ∷ [])
+    -- 22 "file ends after a 1 or 2 not dropped", in salvage too
+    × (readAll plain (ofS 0 (text "10007AB" 0 ∷ [])) ≡ no refuse22 ∷ [])
+    × (readAll salvage (ofS 0 (text "10007AB" 0 ∷ [])) ≡ no refuse22 ∷ [])
+unfolding isDigit digitValue number4 kindOf lookS look walk pieces inBlock inBlocks ahead answer step enough readOn readAll
+edges-S = (refl, refl, refl, refl, refl, refl, refl, refl)
+
+pub edges-gap :
+    -- "a 2 is dropped, unmeasured by R, and the mark stays; a 3 is dropped likewise and reading goes on without it. A block of fill keeps it."
+    (readAll salvage (ofS 1 (lostBlock 11 ∷ text "" 10 ∷ text "20007AB" 0 ∷ text "30007CD00006E" 0 ∷ []))
+    ≡ gap 0 ∷ rec (body "E" 3 3) ∷ end ∷ [])
+    -- "a 3 is dropped [..] and reading goes on without [the mark]": a second 3 breaks the rule
+    × (readAll salvage (ofS 0 (lostBlock 11 ∷ text "30007AB30007CD" 0 ∷ [])) ≡ gap 0 ∷ no (refuse21 1 7) ∷ [])
+    -- a dropped 2 still has fill behind it; after it "0 to 3 may come first" again, and the file may end
+    × (readAll salvage (ofS 0 (lostBlock 11 ∷ text "20007AB0" 0 ∷ [])) ≡ gap 0 ∷ no (refuse21 1 7) ∷ [])
+    × (readAll salvage (ofS 0 (lostBlock 11 ∷ text "20007AB" 0 ∷ text "00006C" 0 ∷ [])) ≡ gap 0 ∷ rec (body "C" 2 2) ∷ end ∷ [])
+    × (readAll salvage (ofS 0 (lostBlock 11 ∷ lostBlock 11 ∷ text "20007AB" 0 ∷ [])) ≡ gap 0 ∷ gap 1 ∷ end ∷ [])
+    -- "Meeting it, also midway in a spanned record, gives one gap"
+    × (readAll salvage (ofS 0 (text "10007AB" 0 ∷ lostBlock 7 ∷ text "30007CD" 0 ∷ [])) ≡ gap 1 ∷ end ∷ [])
+    -- "In plain reading, at offsets above 0, and in F and V, the mark counts as absent."
+    × (step salvage (ofS 0 (lostBlock 11 ∷ text "30007AB00005" 0 ∷ [])) (place 1 0 true) ≡ took (body "" 1 1) (place 1 12 false))
+    × (step salvage (ofS 0 (lostBlock 11 ∷ text "30007AB00005" 0 ∷ [])) (place 1 0 false) ≡ refused (refuse21 1 0))
+    × (step plain (ofS 0 (lostBlock 11 ∷ text "30007AB00005" 0 ∷ [])) (place 1 0 true) ≡ refused (refuse21 1 0))
+    × (step salvage (ofS 0 (text "00006A" 0 ∷ text "30007AB" 0 ∷ [])) (place 0 6 true) ≡ refused (refuse21 1 0))
+unfolding isDigit digitValue number4 kindOf lookS look walk pieces inBlock inBlocks ahead answer step enough readOn readAll
+edges-gap = (refl, refl, refl, refl, refl, refl, refl, refl, refl, refl)
+
+pub edges-F :
+    -- F has no fill: a block of 00 holds records of 00
+    (readAll plain (ofF 2 (text "AB" 2 ∷ text "CD" 0 ∷ []))
+    ≡ rec (body "AB" 0 0) ∷ rec (record { body = 0 ∷ 0 ∷ []; firstBlock = 0; lastBlock = 0 }) ∷ rec (body "CD" 1 1) ∷ end ∷ [])
+    × (readAll salvage (ofF 2 (text "AB" 0 ∷ lostBlock 2 ∷ text "CD" 0 ∷ [])) ≡ rec (body "AB" 0 0) ∷ gap 1 ∷ rec (body "CD" 2 2) ∷ end ∷ [])
+unfolding lookF look walk pieces inBlock inBlocks ahead answer step enough readOn readAll
+edges-F = (refl, refl)
+
+-- S, B = 10, R = 0000: "a segment starts where 6 bytes are left (5 for an empty record)"
+abbrev packS : List (List ℕ) → Packing
+packS = pack (record { format = spanned; R = 0; blocked = true }) 10
+
+pub edges-pack :
+    (packS (bytes "" ∷ bytes "A" ∷ []) ≡ record { contents = (bytes "00005" ++ replicate 5 0) ∷ bytes "00006A" ∷ []; U = 4 })
+    × (packS (bytes "" ∷ bytes "" ∷ []) ≡ record { contents = bytes "0000500005" ∷ []; U = 0 })
+    × (packS (bytes "ABCDEFGHIJKL" ∷ []) ≡ record { contents = bytes "10010ABCDE" ∷ bytes "20010FGHIJ" ∷ bytes "30007KL" ∷ []; U = 3 })
+    -- no records, no blocks
+    × (packS [] ≡ record { contents = []; U = 0 })
+unfolding padded segment spread layS pack
+edges-pack = (refl, refl, refl, refl)
+
+-- 11 "extent shares a record with a lower slot's": labels of which only start (29-33) and end (35-39) are read, against one of 02001 to 02004
+abbrev extentOf : String → String → List ℕ
+extentOf from to = replicate 28 32 ++ (bytes from ++ (32 ∷ bytes to))
+
+abbrev volume : Geometry
+volume = record { L = 5; I = 8; D = 8; k = 0; P = 128; S = 2; d1 = 0; d2 = 0 }
+
+abbrev shared : String → String → Bool
+shared from to = overlap volume (extentOf from to) (extentOf "02001" "02004")
+
+pub edges-overlap :
+    (shared "02004" "02008" ≡ true)
+    × (shared "02005" "02008" ≡ false)
+    × (shared "01108" "02001" ≡ true)
+    × (shared "01101" "01108" ≡ false)
+    × (shared "01001" "05108" ≡ true)
+    × (shared "02002" "02003" ≡ true)
+unfolding digitValue addressIn index overlap
+edges-overlap = (refl, refl, refl, refl, refl, refl)

@@ -1,0 +1,87 @@
+-- Section "Twelve proved examples": one table, one theorem.
+-- Assumes nothing.
+use Prim.Native.Nat.{ℕ}
+use mathlib.Core.Path.{_≡_, refl}
+use mathlib.Core.Bool.{true}
+use mathlib.Core.List.{List, [], _∷_, _++_, map}
+use lib.ListN.{length, replicate}
+use lib.Dec.{eqb}
+use Rattle.standard.specs.Characters.{bytes, isDigit, digitValue, padded}
+use Rattle.standard.specs.Defects.{skipOne, physical}
+use Rattle.standard.specs.Addresses.{addressIn, stepped}
+use Rattle.standard.specs.Pieces.{variable, spanned, Params, number4, kindOf, lookV, lookS, look, walk, pieces, inBlock, inBlocks, ahead}
+use Rattle.standard.specs.Records.{salvage, Item, rec, gap, end, answer, step, enough, readOn, readAll}
+use Rattle.standard.specs.Files.{addressesFrom}
+use Rattle.standard.specs.Packing.{Packing, recordV, segment, lay, layOne, spread, layS, pack, fileOf}
+use Rattle.standard.specs.Writing.{nextDataEnd}
+use Rattle.standard.specs.Damage.{damage, damaged}
+use Rattle.standard.specs.declared.Geometry.{Geometry}
+use Rattle.standard.specs.declared.Address.{Address}
+
+-- a volume with L, D, S and defects d1, d2; an address by its five digits
+abbrev volume : ℕ → ℕ → ℕ → ℕ → ℕ → Geometry
+volume L D S d1 d2 = record { L = L; I = 8; D = D; k = 0; P = 128; S = S; d1 = d1; d2 = d2 }
+
+-- 6 and 7: the extent 01001 to 01008 of a volume with D = 8, all its records good; all but the third
+abbrev eightGood : List Address
+eightGood = addressesFrom (volume 5 8 1 0 0) 8 (addressIn (bytes "01001"))
+
+abbrev sevenGood : List Address
+sevenGood = addressesFrom (volume 5 8 1 0 0) 2 (addressIn (bytes "01001")) ++ addressesFrom (volume 5 8 1 0 0) 5 (addressIn (bytes "01004"))
+
+abbrev dataEnd : List Address → ℕ → Address
+dataEnd good n = nextDataEnd (volume 5 8 1 0 0) (addressIn (bytes "01001")) (addressIn (bytes "01008")) 2 good n
+
+-- 8: V, B = R = 30; 9 to 12: S, B = 20, R = 0000. Bodies of so many bytes.
+abbrev v30 : Params
+v30 = record { format = variable; R = 30; blocked = true }
+
+abbrev s20 : Params
+s20 = record { format = spanned; R = 0; blocked = true }
+
+abbrev written8 : Packing
+written8 = pack v30 30 (replicate 10 65 ∷ replicate 10 66 ∷ replicate 10 67 ∷ [])
+
+abbrev written9 : Packing
+written9 = pack s20 20 (bytes "AAAAAAAA" ∷ bytes "BBBBBBBBBBBB" ∷ bytes "CCC" ∷ [])
+
+abbrev written12 : Packing
+written12 = pack s20 20 (replicate 20 65 ∷ replicate 20 66 ∷ [])
+
+-- what salvage gives of a written file with one block lost
+abbrev salvaged : Packing → ℕ → List Item
+salvaged w lost = readAll salvage (damaged (λ b. eqb b lost) (fileOf s20 (w .contents)))
+
+abbrev record9 : List ℕ → ℕ → ℕ → Item
+record9 body first last = rec (record { body = body; firstBlock = first; lastBlock = last })
+
+pub examples :
+    -- 1
+    (stepped (volume 5 8 2 0 0) (addressIn (bytes "01008")) ≡ addressIn (bytes "01101"))
+    -- 2
+    × (stepped (volume 5 8 2 0 0) (addressIn (bytes "01108")) ≡ addressIn (bytes "02001"))
+    -- 3
+    × (stepped (volume 5 8 1 0 0) (addressIn (bytes "05008")) ≡ addressIn (bytes "06001"))
+    -- 4
+    × (map (physical (volume 73 8 1 10 11)) (9 ∷ 10 ∷ []) ≡ 9 ∷ 12 ∷ [])
+    -- 5
+    × (map (physical (volume 73 8 1 73 74)) (72 ∷ 73 ∷ []) ≡ 72 ∷ 75 ∷ [])
+    -- 6
+    × (map (dataEnd eightGood) (3 ∷ 4 ∷ []) ≡ addressIn (bytes "01007") ∷ addressIn (bytes "02001") ∷ [])
+    -- 7
+    × (dataEnd sevenGood 3 ≡ addressIn (bytes "02001"))
+    -- 8
+    × ((length (written8 .contents) ∷ written8 .U ∷ []) ≡ 2 ∷ 16 ∷ [])
+    -- 9
+    × (written9 ≡ record {
+      contents = bytes "00013AAAAAAAA10007BB" ∷ (bytes "30015BBBBBBBBBB" ++ replicate 5 0) ∷ bytes "00008CCC" ∷ [];
+      U = 12;
+    })
+    -- 10
+    × (salvaged written9 1 ≡ record9 (bytes "AAAAAAAA") 0 0 ∷ gap 1 ∷ record9 (bytes "CCC") 2 2 ∷ end ∷ [])
+    -- 11
+    × (salvaged written9 0 ≡ gap 0 ∷ record9 (bytes "CCC") 2 2 ∷ end ∷ [])
+    -- 12
+    × (salvaged written12 1 ≡ gap 1 ∷ end ∷ [])
+unfolding isDigit digitValue padded number4 kindOf lookV lookS addressIn stepped skipOne physical addressesFrom nextDataEnd recordV segment lay layOne spread layS pack fileOf damage damaged look walk pieces inBlock inBlocks ahead answer step enough readOn readAll
+examples = (refl, refl, refl, refl, refl, refl, refl, refl, refl, refl, refl, refl)
