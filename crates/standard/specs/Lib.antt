@@ -1,23 +1,31 @@
-pub mod Characters
-pub mod Refusals
+-- The image
 pub mod Layout
+-- VOL1 and ERMAP
+pub mod Characters
 pub mod Volume
 pub mod Defects
+-- HDR1
 pub mod Addresses
-pub mod Pieces
 pub mod Labels
 pub mod Slots
-pub mod Judgement
-pub mod Finding
-pub mod Free
+-- Blocks and records: a file's blocks, what stands in them, places, reading, packing
+pub mod Files
+pub mod Pieces
 pub mod Places
 pub mod Records
-pub mod Files
-pub mod Reading
-pub mod Packing
-pub mod Writing
 pub mod Damage
+pub mod Packing
+-- Refusal numbers: rules in order, the volume (1 to 12), finding (13), reading (13 to 23), writing (24 to 27), free records
+pub mod Refusals
+pub mod Judgement
+pub mod Finding
+pub mod Reading
+pub mod Writing
+pub mod Free
+-- Listing
 pub mod Listing
-pub mod Packed
+-- Twelve proved examples, and the edges of the rules
 pub mod Examples
 pub mod Edges
+-- The one returned 64-bit number of the C boundary
+pub mod Packed

@@ -1,53 +1,40 @@
-use Rattle.standard.specs.Addresses.{fiveDigits}
+-- `five_digits` meets its contract: five tests joined, with no branch.
+-- Assumes nothing.
 use borrow.Author.Needs.{needs}
+use Rattle.standard.specs.Addresses.{fiveDigits}
 use Rattle.standard.proofs.five_digits.Statement.{statement}
 use Rattle.standard.proofs.five_digits.Tie as tie
-use Rattle.standard.proofs.five_digits.Reads as reads
-use Rattle.standard.proofs.five_digits.Lts as lts
-use Rattle.standard.proofs.byte_at.Reads as byte-at-reads
-use Rattle.standard.proofs.is_digit.Reads as is-digit-reads
 
--- src/lib.rt:254:14
 byte-at-requires : tie.Need-byte-at-requires
 byte-at-requires c κs = search needs
 
--- src/lib.rt:254:5
 is-digit-requires : tie.Need-is-digit-requires
 is-digit-requires c κs = search needs
 
--- src/lib.rt:255:20
 byte-at-requires-2 : tie.Need-byte-at-requires-2
 byte-at-requires-2 c κs = search needs
 
--- src/lib.rt:255:11
 is-digit-requires-2 : tie.Need-is-digit-requires-2
 is-digit-requires-2 c κs = search needs
 
--- src/lib.rt:256:20
 byte-at-requires-3 : tie.Need-byte-at-requires-3
 byte-at-requires-3 c κs = search needs
 
--- src/lib.rt:256:11
 is-digit-requires-3 : tie.Need-is-digit-requires-3
 is-digit-requires-3 c κs = search needs
 
--- src/lib.rt:257:20
 byte-at-requires-4 : tie.Need-byte-at-requires-4
 byte-at-requires-4 c κs = search needs
 
--- src/lib.rt:257:11
 is-digit-requires-4 : tie.Need-is-digit-requires-4
 is-digit-requires-4 c κs = search needs
 
--- src/lib.rt:258:20
 byte-at-requires-5 : tie.Need-byte-at-requires-5
 byte-at-requires-5 c κs = search needs
 
--- src/lib.rt:258:11
 is-digit-requires-5 : tie.Need-is-digit-requires-5
 is-digit-requires-5 c κs = search needs
 
--- src/lib.rt:251:1
 returns : tie.Need-returns
 unfolding fiveDigits
 returns c = cc
