@@ -1,0 +1,372 @@
+//! Turns small cases into equations about the definitions, which the prover
+//! then checks by computation: on the left the definition that a contract
+//! cites, on the right what the independent program answered.
+//!
+//! The names to import and to unfold are read off the definitions themselves,
+//! so that this file knows only the names that it cites.
+
+use compare::make::{cases, counted, Case};
+use compare::{answer, listing, Call};
+use std::collections::BTreeMap;
+use std::fmt::Write as _;
+use std::fs;
+use std::io;
+use std::path::{Path, PathBuf};
+use std::process::ExitCode;
+
+const HELP: &str = "\
+equations DEFINITIONS OUT [--seed N] [--count N] [--largest BYTES] [--crates N]
+equations DEFINITIONS OUT --image FILE
+
+Writes the crates equations_1, equations_2 .. below the folder OUT, equations
+about each case: DEFINITIONS is the folder specs/ of the crate standard. Half of
+the cases are drawn from the seed, with images of at most so many bytes; half
+are taken evenly from those counted out.
+With --image the cases are the judgement, the free records and the listing of
+that image, and the listing is printed.
+";
+
+struct Options {
+    seed: u64,
+    count: usize,
+    largest: usize,
+    crates: usize,
+    image: Option<String>,
+}
+
+fn main() -> ExitCode {
+    let words: Vec<String> = std::env::args().skip(1).collect();
+    let (Some(definitions), Some(out), Some(options)) = (
+        words.first(),
+        words.get(1),
+        options(words.get(2..).unwrap_or(&[])),
+    ) else {
+        eprint!("{HELP}");
+        return ExitCode::from(2);
+    };
+    match write_crates(Path::new(definitions), Path::new(out), &options) {
+        Ok(equations) => {
+            println!("{equations} equations");
+            ExitCode::SUCCESS
+        }
+        Err(error) => {
+            eprintln!("equations: {error}");
+            ExitCode::FAILURE
+        }
+    }
+}
+
+fn options(words: &[String]) -> Option<Options> {
+    let mut options = Options {
+        seed: 28_081,
+        count: 300,
+        largest: 2_500,
+        crates: 2,
+        image: None,
+    };
+    for pair in words.chunks(2) {
+        let [name, value] = pair else { return None };
+        match name.as_str() {
+            "--seed" => options.seed = value.parse().ok()?,
+            "--count" => options.count = value.parse().ok()?,
+            "--largest" => options.largest = value.parse().ok()?,
+            "--crates" => options.crates = value.parse().ok().filter(|n| *n > 0)?,
+            "--image" => options.image = Some(value.clone()),
+            _ => return None,
+        }
+    }
+    Some(options)
+}
+
+fn write_crates(definitions: &Path, out: &Path, options: &Options) -> io::Result<usize> {
+    let preamble = Preamble::read(definitions)?;
+    let mut texts = vec![preamble.imports.clone(); options.crates];
+    let mut equations = 0;
+    for (number, case) in chosen(options)?.iter().enumerate() {
+        let facts = facts(number, &case.image, &case.call);
+        equations += facts.len();
+        let text = &mut texts[number % options.crates];
+        let _ = write!(
+            text,
+            "\n-- {} {number}\nabbrev image-{number} : List ℕ\nimage-{number} =\n    {}\n\ncase-{number} :\n    ({})\nunfolding{}\ncase-{number} = {}\n",
+            case.family,
+            list(&case.image),
+            facts.join(")\n    × ("),
+            preamble.unfolding,
+            proofs(facts.len())
+        );
+    }
+    for (number, text) in texts.iter().enumerate() {
+        let folder = out.join(format!("equations_{}", number + 1));
+        fs::create_dir_all(folder.join("src"))?;
+        fs::create_dir_all(folder.join("specs"))?;
+        fs::write(
+            folder.join("src/lib.rt"),
+            "// Equations only: see specs/Cases.antt.\n",
+        )?;
+        fs::write(folder.join("specs/Lib.antt"), "pub mod Cases\n")?;
+        fs::write(folder.join("specs/Cases.antt"), text)?;
+    }
+    Ok(equations)
+}
+
+fn chosen(options: &Options) -> io::Result<Vec<Case>> {
+    let Some(file) = &options.image else {
+        let drawn = options.count.div_ceil(2);
+        let mut all: Vec<Case> = cases(options.seed, drawn, options.largest).collect();
+        all.extend(evenly(options.count - drawn));
+        return Ok(all);
+    };
+    let image = fs::read(file)?;
+    eprint!("{}", String::from_utf8_lossy(&listing(&image)));
+    let calls = [Call::Judge, Call::Free, Call::Listing];
+    let case = |call| Case {
+        family: "image",
+        image: image.clone(),
+        call,
+    };
+    Ok(calls.into_iter().map(case).collect())
+}
+
+/// The largest image of the counted cases that are taken.
+const COUNTED: usize = 4_700;
+
+/// So many counted cases: as many of each family, and those evenly spread.
+fn evenly(count: usize) -> Vec<Case> {
+    let mut sizes: BTreeMap<&str, usize> = BTreeMap::new();
+    for case in counted(COUNTED) {
+        *sizes.entry(case.family).or_default() += 1;
+    }
+    let share = count.div_ceil(sizes.len().max(1));
+    let mut met: BTreeMap<&str, usize> = BTreeMap::new();
+    let mut taken = Vec::new();
+    for case in counted(COUNTED) {
+        let index = met.entry(case.family).or_default();
+        let size = sizes[case.family];
+        if *index * share / size != (*index + 1) * share / size {
+            taken.push(case);
+        }
+        *index += 1;
+    }
+    taken.truncate(count);
+    taken
+}
+
+fn proofs(count: usize) -> String {
+    if count == 1 {
+        "refl".to_string()
+    } else {
+        format!("({})", vec!["refl"; count].join(", "))
+    }
+}
+
+/// What stands above the equations, and the line that opens the definitions.
+struct Preamble {
+    imports: String,
+    unfolding: String,
+}
+
+impl Preamble {
+    fn read(definitions: &Path) -> io::Result<Preamble> {
+        let mut imports = String::from(
+            "-- Cases of the independent program, as equations about the definitions.\n\
+             -- Assumes nothing.\n\
+             use Prim.Native.Nat.{ℕ}\n\
+             use mathlib.Core.Path.{_≡_, refl}\n\
+             use mathlib.Core.Bool.{true, false}\n\
+             use mathlib.Core.List.{List, [], _∷_, _++_}\n\
+             use lib.ListN.{replicate}\n",
+        );
+        let mut unfolding = String::new();
+        for file in modules(definitions)? {
+            let text = fs::read_to_string(&file)?;
+            let opened: Vec<&str> = names(&text, "unfoldable pub ").collect();
+            let cited = names(&text, "abbrev pub ")
+                .filter(|name| CITED.contains(name))
+                .chain(
+                    ["plain", "salvage"]
+                        .into_iter()
+                        .filter(|mode| declares(&text, mode)),
+                );
+            let all: Vec<&str> = opened.iter().copied().chain(cited).collect();
+            if let (Some(module), false) = (file.file_stem(), all.is_empty()) {
+                let module = module.to_string_lossy();
+                let _ = writeln!(
+                    imports,
+                    "use Rattle.standard.specs.{module}.{{{}}}",
+                    all.join(", ")
+                );
+            }
+            for name in opened {
+                let _ = write!(unfolding, " {name}");
+            }
+        }
+        Ok(Preamble { imports, unfolding })
+    }
+}
+
+/// Those of the cited names that are no `unfoldable` definitions.
+const CITED: [&str; 5] = [
+    "bytes",
+    "readAnswer",
+    "outputAfter",
+    "written",
+    "imageAfter",
+];
+
+/// The modules that hold definitions: the examples and edges hold facts.
+fn modules(definitions: &Path) -> io::Result<Vec<PathBuf>> {
+    let mut files = Vec::new();
+    for entry in fs::read_dir(definitions)? {
+        let path = entry?.path();
+        let stem = path.file_stem().map(|s| s.to_string_lossy().to_string());
+        if !matches!(stem.as_deref(), Some("Lib" | "Examples" | "Edges") | None) {
+            files.push(path);
+        }
+    }
+    files.sort();
+    Ok(files)
+}
+
+fn names<'a>(text: &'a str, mark: &'a str) -> impl Iterator<Item = &'a str> {
+    text.lines()
+        .filter_map(move |line| line.strip_prefix(mark))
+        .filter_map(|rest| rest.split(' ').next())
+}
+
+/// Whether the module declares the constructors of the modes.
+fn declares(text: &str, mode: &str) -> bool {
+    text.contains("data Mode") && text.contains(mode)
+}
+
+/// The equations of a case: the packed answer, and the lent bytes afterwards.
+fn facts(number: usize, image: &[u8], call: &Call) -> Vec<String> {
+    let found = answer(image, call);
+    let packed = found.packed;
+    let image_name = format!("image-{number}");
+    match call {
+        Call::Judge => vec![format!("packedJudged (judged {image_name}) ≡ {packed}")],
+        Call::Find { name } => {
+            vec![format!(
+                "packedFound (found {image_name} ({})) ≡ {packed}",
+                list(name)
+            )]
+        }
+        Call::Count { slot } => {
+            vec![format!(
+                "packedCounted (counted {image_name} {slot}) ≡ {packed}"
+            )]
+        }
+        Call::Free => vec![format!("packedCounted (freeCount {image_name}) ≡ {packed}")],
+        Call::Read {
+            slot,
+            block,
+            offset,
+            mark,
+            out,
+        } => {
+            let place = place(*block, *offset, *mark);
+            reading(
+                &format!("plain {image_name} {slot} {place} ({})", list(out)),
+                packed,
+                &found.out,
+            )
+        }
+        Call::Salvage {
+            slot,
+            block,
+            offset,
+            mark,
+            out,
+        } => {
+            let place = place(*block, *offset, *mark);
+            reading(
+                &format!("salvage {image_name} {slot} {place} ({})", list(out)),
+                packed,
+                &found.out,
+            )
+        }
+        Call::Write {
+            slot,
+            bodies,
+            lengths,
+        } => {
+            let lengths: String = lengths.iter().map(|n| format!("{n} ∷ ")).collect();
+            let call = format!("{image_name} {slot} ({}) ({lengths}[])", list(bodies));
+            let after = if found.image == image {
+                image_name
+            } else {
+                list(&found.image)
+            };
+            vec![
+                format!("packedWritten (written {call}) ≡ {packed}"),
+                format!("imageAfter {call} ≡ ({after})"),
+            ]
+        }
+        Call::Listing => vec![format!("listing {image_name} ≡ ({})", list(&found.out))],
+    }
+}
+
+fn reading(call: &str, packed: u64, out: &[u8]) -> Vec<String> {
+    vec![
+        format!("packedAnswer (readAnswer {call}) ≡ {packed}"),
+        format!("outputAfter {call} ≡ ({})", list(out)),
+    ]
+}
+
+/// "a mark is set if it is not 0"
+fn place(block: u64, offset: u64, mark: u64) -> String {
+    format!(
+        "(record {{ block = {block}; offset = {offset}; mark = {} }})",
+        mark != 0
+    )
+}
+
+const RUN: usize = 6;
+
+/// Bytes as a list: runs of one byte, texts, and single bytes.
+fn list(bytes: &[u8]) -> String {
+    let mut parts = Vec::new();
+    let mut rest = bytes;
+    while let Some(first) = rest.first() {
+        let run = run_of(rest);
+        let length = if run >= RUN { run } else { mixed(rest) };
+        let (part, behind) = rest.split_at(length);
+        parts.push(if run >= RUN {
+            format!("replicate {run} {first}")
+        } else if is_text(*first) {
+            format!("bytes \"{}\"", String::from_utf8_lossy(part))
+        } else {
+            let bytes: String = part.iter().map(|b| format!("{b} ∷ ")).collect();
+            format!("({bytes}[])")
+        });
+        rest = behind;
+    }
+    if parts.is_empty() {
+        "[]".to_string()
+    } else {
+        parts.join("\n    ++ ")
+    }
+}
+
+fn run_of(bytes: &[u8]) -> usize {
+    bytes.iter().take_while(|byte| **byte == bytes[0]).count()
+}
+
+/// How many bytes are of one sort, text or not, up to the next long run.
+fn mixed(bytes: &[u8]) -> usize {
+    let sort = is_text(bytes[0]);
+    let mut length = 0;
+    while length < bytes.len() && is_text(bytes[length]) == sort {
+        let run = run_of(&bytes[length..]);
+        if run >= RUN {
+            break;
+        }
+        length += run;
+    }
+    length
+}
+
+fn is_text(byte: u8) -> bool {
+    (b' '..=b'~').contains(&byte) && byte != b'"' && byte != b'\\'
+}

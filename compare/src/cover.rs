@@ -1,0 +1,252 @@
+//! Counts which refusals, answers, positions and shapes cases reach.
+
+use crate::label::{Entry, Format};
+use crate::make::fields::{ERMAP, HDR1, VOL1};
+use crate::make::Case;
+use crate::model::{answer, Answer, Call};
+use crate::packed::{code, refusal_of, END, GAP};
+use crate::volume::{judge, label_in};
+use std::collections::BTreeMap;
+
+/// How often each thing was reached, in the order of the tables.
+#[derive(Clone, Debug)]
+pub struct Cover {
+    tables: Vec<Table>,
+}
+
+/// A title and how often each row was reached.
+type Table = (&'static str, BTreeMap<String, usize>);
+
+fn table<T: ToString>(title: &'static str, keys: impl IntoIterator<Item = T>) -> Table {
+    let rows = keys.into_iter().map(|key| (wide(&key.to_string()), 0));
+    (title, rows.collect())
+}
+
+/// Numbers are kept in their order by leading spaces.
+fn wide(key: &str) -> String {
+    if key.bytes().all(|byte| byte.is_ascii_digit()) {
+        format!("{key:>3}")
+    } else {
+        key.to_string()
+    }
+}
+
+const REFUSALS: &str = "refusals";
+const READINGS: &str = "answers of reading and salvage";
+const DONE: &str = "calls done";
+const SECTORS: &str = "sectors of refusal 2";
+const OF_VOL1: &str = "positions of refusal 3";
+const OF_ERMAP: &str = "positions of refusal 7";
+const OF_HDR1: &str = "positions of refusal 10";
+const SIZES: &str = "P accepted";
+const SIDES: &str = "S accepted";
+const DEFECTS: &str = "defective cylinders accepted";
+const FORMATS: &str = "format and blocking accepted";
+const LEVELS: &str = "levels accepted";
+const BLOCKS: &str = "B and R accepted";
+const LISTS: &str = "listings";
+
+/// What calls answer.
+fn answer_tables() -> Vec<Table> {
+    let readings = [
+        "read record",
+        "read End",
+        "salvage record",
+        "salvage gap",
+        "salvage End",
+    ];
+    let done = [
+        "judge",
+        "find",
+        "count",
+        "free",
+        "write",
+        "write of nothing",
+    ];
+    vec![
+        table(REFUSALS, 1..=27),
+        table(READINGS, readings),
+        table(DONE, done),
+        table(SECTORS, [5, 7]),
+        table(OF_VOL1, VOL1),
+        table(OF_ERMAP, ERMAP),
+        table(OF_HDR1, HDR1),
+        table(
+            LISTS,
+            ["VOLUME", "REFUSED", "!17", "!18", "|?|", "TOO LONG"],
+        ),
+    ]
+}
+
+/// What accepted volumes look like.
+fn shape_tables() -> Vec<Table> {
+    let defects = ["none", "d1", "d1 = L", "d1 and d2", "d1 = L and d2 = L+1"];
+    let formats = ["F", "F blocked", "V", "V blocked", "S blocked"];
+    let blocks = ["B below P", "B = P", "B above P", "R spaces", "R 0000", "R"];
+    vec![
+        table(SIZES, [128, 256, 512, 1024]),
+        table(SIDES, [1, 2]),
+        table(DEFECTS, defects),
+        table(FORMATS, formats),
+        table(LEVELS, ["space", "1", "2", "another"]),
+        table(BLOCKS, blocks),
+    ]
+}
+
+impl Cover {
+    pub fn new() -> Cover {
+        let mut tables = answer_tables();
+        tables.extend(shape_tables());
+        Cover { tables }
+    }
+
+    fn reach(&mut self, title: &str, key: &str) {
+        let key = wide(key);
+        let found = self.tables.iter_mut().find(|table| table.0 == title);
+        if let Some(row) = found.and_then(|table| table.1.get_mut(&key)) {
+            *row += 1;
+        }
+    }
+
+    /// Counts a case and its answer.
+    pub fn count(&mut self, case: &Case) -> Answer {
+        let given = answer(&case.image, &case.call);
+        self.count_refusal(given.packed);
+        self.count_done(&case.call, &given);
+        if let Ok(geometry) = judge(&case.image) {
+            self.count_volume(&case.image, &geometry);
+        }
+        given
+    }
+
+    fn count_refusal(&mut self, packed: u64) {
+        let Some(refused) = refusal_of(packed) else {
+            return;
+        };
+        self.reach(REFUSALS, &refused.number.to_string());
+        match refused.number {
+            2 => self.reach(SECTORS, &refused.first.to_string()),
+            3 => self.reach(OF_VOL1, &refused.first.to_string()),
+            7 => self.reach(OF_ERMAP, &refused.first.to_string()),
+            10 => self.reach(OF_HDR1, &refused.second.to_string()),
+            _ => {}
+        }
+    }
+
+    fn count_done(&mut self, call: &Call, given: &Answer) {
+        let code = code(given.packed);
+        match (call, code) {
+            (Call::Judge, 0) => self.reach(DONE, "judge"),
+            (Call::Find { .. }, 0) => self.reach(DONE, "find"),
+            (Call::Count { .. }, 0) => self.reach(DONE, "count"),
+            (Call::Free, 0) => self.reach(DONE, "free"),
+            (Call::Write { lengths, .. }, 0) => {
+                self.reach(DONE, "write");
+                if lengths.is_empty() {
+                    self.reach(DONE, "write of nothing");
+                }
+            }
+            (Call::Read { .. }, 0) => self.reach(READINGS, "read record"),
+            (Call::Read { .. }, END) => self.reach(READINGS, "read End"),
+            (Call::Salvage { .. }, 0) => self.reach(READINGS, "salvage record"),
+            (Call::Salvage { .. }, GAP) => self.reach(READINGS, "salvage gap"),
+            (Call::Salvage { .. }, END) => self.reach(READINGS, "salvage End"),
+            (Call::Listing, _) => self.count_listing(&given.out),
+            _ => {}
+        }
+    }
+
+    fn count_listing(&mut self, text: &[u8]) {
+        let text = String::from_utf8_lossy(text).into_owned();
+        for key in ["VOLUME", "REFUSED", "!17", "!18", "|?|", "TOO LONG"] {
+            if text.contains(key) {
+                self.reach(LISTS, key);
+            }
+        }
+    }
+
+    fn count_volume(&mut self, image: &[u8], geometry: &crate::Geometry) {
+        self.reach(SIZES, &geometry.p().to_string());
+        self.reach(SIDES, &geometry.s.to_string());
+        let defects = match (geometry.d1, geometry.d2) {
+            (None, _) => "none",
+            (Some(d1), None) if d1 == geometry.l => "d1 = L",
+            (Some(_), None) => "d1",
+            (Some(d1), Some(_)) if d1 == geometry.l => "d1 = L and d2 = L+1",
+            (Some(_), Some(_)) => "d1 and d2",
+        };
+        self.reach(DEFECTS, defects);
+        for label in (1..=geometry.slots()).filter_map(|slot| label_in(image, slot)) {
+            match Entry::of(label, geometry) {
+                Some(entry) => self.count_file(label, &entry, geometry.p()),
+                None => self.reach(LEVELS, "another"),
+            }
+        }
+    }
+
+    fn count_file(&mut self, label: &[u8], entry: &Entry, p: usize) {
+        let level = match label[43] {
+            b'1' => "1",
+            b'2' => "2",
+            _ => "space",
+        };
+        self.reach(LEVELS, level);
+        let format = match (entry.format, entry.blocked) {
+            (Format::Fixed, false) => "F",
+            (Format::Fixed, true) => "F blocked",
+            (Format::Variable, false) => "V",
+            (Format::Variable, true) => "V blocked",
+            (Format::Spanned, _) => "S blocked",
+        };
+        self.reach(FORMATS, format);
+        let size = match entry.b.cmp(&p) {
+            std::cmp::Ordering::Less => "B below P",
+            std::cmp::Ordering::Equal => "B = P",
+            std::cmp::Ordering::Greater => "B above P",
+        };
+        self.reach(BLOCKS, size);
+        let record = match &label[53..57] {
+            b"    " => "R spaces",
+            b"0000" => "R 0000",
+            _ => "R",
+        };
+        self.reach(BLOCKS, record);
+    }
+
+    /// What was never reached.
+    pub fn missing(&self) -> Vec<String> {
+        let rows = self.tables.iter().flat_map(|(title, rows)| {
+            rows.iter()
+                .filter(|row| *row.1 == 0)
+                .map(move |row| format!("{title}: {}", row.0.trim()))
+        });
+        rows.collect()
+    }
+
+    /// The tables as text.
+    pub fn text(&self) -> String {
+        let mut text = String::new();
+        for (title, rows) in &self.tables {
+            text.push_str(&format!("{title}\n"));
+            for (key, count) in rows {
+                text.push_str(&format!("  {key:<20} {count:>8}\n"));
+            }
+        }
+        text
+    }
+}
+
+impl Default for Cover {
+    fn default() -> Cover {
+        Cover::new()
+    }
+}
+
+/// The cover of the first cases of a seed.
+pub fn cover(seed: u64, count: usize, largest: usize) -> Cover {
+    let mut cover = Cover::new();
+    for case in crate::make::cases(seed, count, largest) {
+        cover.count(&case);
+    }
+    cover
+}

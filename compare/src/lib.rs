@@ -1,0 +1,26 @@
+//! GOST 28081-89 exchange diskettes as files: the rules of document 01 stated
+//! once more, from its words alone, to be compared with the proved library.
+
+pub mod cover;
+pub mod file;
+pub mod label;
+pub mod layout;
+pub mod listing;
+pub mod make;
+pub mod model;
+pub mod packed;
+pub mod properties;
+pub mod reading;
+pub mod refusal;
+pub mod text;
+pub mod volume;
+pub mod writing;
+
+pub use file::{count, find, free, Found};
+pub use layout::Geometry;
+pub use listing::listing;
+pub use model::{answer, Answer, Call};
+pub use reading::{read, salvage, Place, Reading};
+pub use refusal::Refusal;
+pub use volume::judge;
+pub use writing::write;

@@ -1,0 +1,204 @@
+//! Volumes made by hand: the sample of document 01's listing and a few more.
+
+use super::build::plain_geometry;
+use crate::layout::{Geometry, INDEX_SECTOR};
+use crate::text::address;
+use crate::writing::write;
+
+/// A volume made field by field, without chance: labels of spaces, data of
+/// 00, every slot deleted until a label is put in it.
+#[derive(Clone, Debug)]
+pub struct Plain {
+    pub geometry: Geometry,
+    pub image: Vec<u8>,
+}
+
+/// A label's 128 bytes: a fixed unblocked file of level space.
+pub fn hdr1(name: &str, b: usize, start: &str, end: &str) -> Vec<u8> {
+    let mut label = vec![b' '; 128];
+    label[0..4].copy_from_slice(b"HDR1");
+    label[5..5 + name.len()].copy_from_slice(name.as_bytes());
+    label[22..27].copy_from_slice(format!("{b:05}").as_bytes());
+    label[28..33].copy_from_slice(start.as_bytes());
+    label[34..39].copy_from_slice(end.as_bytes());
+    label[74..79].copy_from_slice(start.as_bytes());
+    label
+}
+
+impl Plain {
+    pub fn new(l: usize, i: usize, d: usize, k: u8, s: usize) -> Plain {
+        let geometry = plain_geometry(l, i, d, k, s);
+        let mut plain = Plain {
+            geometry,
+            image: vec![0; geometry.image_length()],
+        };
+        for ordinal in geometry.index_sectors()..geometry.sectors() {
+            plain.image[geometry.kind_at(ordinal)] = k;
+        }
+        for ordinal in 0..geometry.index_sectors() {
+            Geometry::index_body_mut(&mut plain.image, ordinal).fill(b' ');
+        }
+        for slot in 1..=geometry.slots() {
+            plain.delete(slot);
+        }
+        plain.set_sector(5, 1, b"ERMAP");
+        plain.set_sector(7, 1, b"VOL1DEMO01");
+        plain.set_sector(7, 72, b"A");
+        plain.set_sector(7, 76, &[b" 123"[k as usize]]);
+        plain.set_sector(7, 79, b"3");
+        plain.set_sector(7, 81, format!("{l:02X}{i:02X}{d:02X}").as_bytes());
+        plain.set_sector(7, 89, format!("{s}").as_bytes());
+        plain
+    }
+
+    /// Sets positions, from 1, of an index sector of side 0, from 01.
+    pub fn set_sector(&mut self, sector: usize, position: usize, bytes: &[u8]) {
+        let at = (sector - 1) * INDEX_SECTOR + position;
+        self.image[at..at + bytes.len()].copy_from_slice(bytes);
+    }
+
+    pub fn delete(&mut self, slot: usize) {
+        let ordinal = Geometry::slot_ordinal(slot);
+        self.image[ordinal * INDEX_SECTOR] = 16;
+        Geometry::index_body_mut(&mut self.image, ordinal)[0] = b'D';
+    }
+
+    pub fn put_label(&mut self, slot: usize, label: &[u8]) {
+        let ordinal = Geometry::slot_ordinal(slot);
+        self.image[ordinal * INDEX_SECTOR] = 0;
+        Geometry::index_body_mut(&mut self.image, ordinal).copy_from_slice(label);
+    }
+
+    /// Sets positions, from 1, of the label in a slot.
+    pub fn set(&mut self, slot: usize, position: usize, bytes: &[u8]) {
+        let label = Geometry::index_body_mut(&mut self.image, Geometry::slot_ordinal(slot));
+        label[position - 1..position - 1 + bytes.len()].copy_from_slice(bytes);
+    }
+
+    /// Where the kind of the record at an address stands.
+    pub fn kind_at(&self, digits: &str) -> usize {
+        let record = address(digits.as_bytes(), &self.geometry).unwrap_or(0);
+        self.geometry.kind_at(self.geometry.record_ordinal(record))
+    }
+
+    /// Sets the kind of the record at an address.
+    pub fn set_kind(&mut self, digits: &str, kind: u8) {
+        let at = self.kind_at(digits);
+        self.image[at] = kind;
+    }
+
+    /// Sets the first bytes of the record at an address.
+    pub fn set_body(&mut self, digits: &str, bytes: &[u8]) {
+        let at = self.kind_at(digits) + 1;
+        self.image[at..at + bytes.len()].copy_from_slice(bytes);
+    }
+
+    /// Writes records, one per line of a text.
+    pub fn write_lines(&mut self, slot: u64, lines: &[&str]) {
+        let bodies: Vec<u8> = lines.concat().into_bytes();
+        let lengths: Vec<u32> = lines.iter().map(|line| line.len() as u32).collect();
+        let written = write(&mut self.image, slot, &bodies, &lengths);
+        debug_assert!(written.is_ok());
+    }
+}
+
+fn part(number: usize, name: &str) -> String {
+    format!("{:<128}", format!("{number:06} {name}"))
+}
+
+fn log(length: usize, entry: &str) -> String {
+    format!("{entry:.<length$}")
+}
+
+/// The volume of document 01's listing section: 9,546 bytes.
+pub fn sample() -> Vec<u8> {
+    demo().image
+}
+
+fn demo() -> Plain {
+    let mut plain = Plain::new(5, 10, 8, 0, 1);
+    plain.put_label(1, &hdr1("PARTS", 128, "01001", "01008"));
+    plain.put_label(3, &hdr1("LOG", 256, "02001", "03008"));
+    plain.set(3, 40, b"V");
+    plain.set(3, 44, b"2");
+    plain.set(3, 54, b"0100");
+    plain.set(3, 63, b"B");
+    let parts = [part(104, "AXLE"), part(117, "BEARING"), part(230, "COVER")];
+    plain.write_lines(1, &parts.each_ref().map(String::as_str));
+    let entries = [
+        log(96, "STARTED"),
+        log(76, "DRIVE 1 READY"),
+        log(66, "VOLUME DEMO01 IN"),
+        log(96, "PARTS OPENED"),
+        log(56, "THREE READ"),
+        log(36, "CLOSED"),
+    ];
+    plain.write_lines(3, &entries.each_ref().map(String::as_str));
+    plain
+}
+
+/// Two sides, labels on side 1, P = 256, defective cylinders 1 and 3.
+fn two_sided() -> Plain {
+    let mut plain = Plain::new(2, 8, 4, 1, 2);
+    plain.set_sector(5, 7, b"010 030");
+    plain.put_label(1, &hdr1("FIRST", 200, "01001", "01103"));
+    plain.put_label(2, &hdr1("SECOND ON SIDE 1", 512, "01104", "02104"));
+    plain.set(2, 40, b"S");
+    plain.set(2, 44, b"2");
+    plain.set(2, 54, b"0000");
+    plain.set(2, 63, b"B");
+    plain.write_lines(1, &[&log(200, "ONE"), &log(200, "TWO")]);
+    plain.write_lines(2, &[&log(700, "LONG"), "", &log(100, "SHORT")]);
+    plain
+}
+
+/// The sample with PARTS turned into a file of level 3.
+fn other_level() -> Plain {
+    let mut plain = demo();
+    plain.set(1, 44, b"3");
+    plain
+}
+
+/// The sample with an incorrect mark, not `F`, in PARTS.
+fn wrong_mark() -> Plain {
+    let mut plain = demo();
+    plain.set_kind("01006", 16);
+    plain
+}
+
+/// The sample with a data end that splits a block of LOG.
+fn split() -> Plain {
+    let mut plain = demo();
+    plain.set(3, 75, b"02004");
+    plain
+}
+
+/// The sample with a broken block length in slot 3.
+fn refused() -> Plain {
+    let mut plain = demo();
+    plain.set(3, 23, b"00257");
+    plain
+}
+
+pub const NAMES: [&str; 6] = [
+    "demo",
+    "two-sided",
+    "other-level",
+    "wrong-mark",
+    "split",
+    "refused",
+];
+
+/// A sample by its name.
+pub fn named(name: &str) -> Option<Vec<u8>> {
+    let plain = match name {
+        "demo" => demo(),
+        "two-sided" => two_sided(),
+        "other-level" => other_level(),
+        "wrong-mark" => wrong_mark(),
+        "split" => split(),
+        "refused" => refused(),
+        _ => return None,
+    };
+    Some(plain.image)
+}

@@ -1,0 +1,64 @@
+//! The command line.
+
+use std::io::Write;
+use std::process::{Command, Output, Stdio};
+
+fn run(arguments: &[&str], input: &[u8]) -> Output {
+    let mut child = Command::new(env!("CARGO_BIN_EXE_compare"))
+        .args(arguments)
+        .stdin(Stdio::piped())
+        .stdout(Stdio::piped())
+        .stderr(Stdio::piped())
+        .spawn()
+        .expect("the program starts");
+    // The program stops reading behind 65,537 bytes, so a longer input may
+    // find the pipe closed.
+    let mut lent = child.stdin.take().expect("an input");
+    let _ = lent.write_all(input);
+    drop(lent);
+    child.wait_with_output().expect("the program ends")
+}
+
+#[test]
+fn a_sample_is_listed_from_standard_input() {
+    let image = run(&["sample", "demo"], b"").stdout;
+    assert_eq!(image, compare::make::sample());
+    let listed = run(&["listing"], &image);
+    assert!(listed.status.success());
+    assert_eq!(listed.stdout, compare::listing(&image));
+}
+
+#[test]
+fn input_above_65536_bytes_is_too_long() {
+    assert_eq!(run(&["listing"], &[0; 65_536]).stdout, b"REFUSED 3 1\n");
+    assert_eq!(run(&["listing"], &[0; 65_537]).stdout, b"TOO LONG\n");
+    assert_eq!(run(&["listing"], &vec![0; 200_000]).stdout, b"TOO LONG\n");
+}
+
+#[test]
+fn cover_fails_where_something_is_never_reached() {
+    assert_eq!(run(&["cover", "--count", "10"], b"").status.code(), Some(1));
+    assert_eq!(run(&["cover", "--seed", "3"], b"").status.code(), Some(0));
+}
+
+#[test]
+fn check_prints_a_count_per_property() {
+    let checked = run(&["check", "--seed", "9", "--count", "200"], b"");
+    assert!(checked.status.success());
+    let text = String::from_utf8(checked.stdout).expect("text");
+    assert_eq!(text.lines().count(), 7);
+    assert!(text.lines().all(|line| line.ends_with(" 200")));
+}
+
+#[test]
+fn help_is_printed_and_misuse_is_2() {
+    assert!(run(&["--help"], b"").status.success());
+    for wrong in [
+        &["sample", "none"][..],
+        &[],
+        &["cover", "--seed"],
+        &["check", "--count", "x"],
+    ] {
+        assert_eq!(run(wrong, b"").status.code(), Some(2));
+    }
+}
