@@ -1,6 +1,6 @@
 -- The data end that a write sets: it is legal, and it gives the number of blocks back.
 -- Assumes nothing.
-use Prim.Native.Nat.{ℕ, zero, suc, _+_, _-_, _*_, _/_, _%_, _<_, _≤_}
+use Prim.Native.Nat.{ℕ, zero, suc, _+_, _*_, _/_, _%_, _<_, _≤_}
 use mathlib.Core.Path.{_≡_, refl, sym, subst}
 use mathlib.Core.Bool.{Bool, true, false, cond, not, _&&_, _||_}
 use mathlib.Core.List.{List, [], _∷_}
@@ -14,10 +14,9 @@ use Rattle.standard.specs.Files.{countBefore}
 use Rattle.standard.specs.Writing.{nextDataEnd}
 use Rattle.standard.specs.declared.Geometry.{Geometry}
 use Rattle.standard.specs.declared.Address.{Address}
-use Rattle.promises.specs.AcceptedLaws.{either, lt-or-le}
-use Rattle.promises.specs.OrdinalLaws.{Parts, parts, from-parts, step-index}
-use Rattle.promises.specs.Basics.{or-right}
-use Rattle.promises.specs.Extents.{Rising, Between, rising-lower}
+use Rattle.promises.specs.Basics.{either, lt-or-le, or-right}
+use Rattle.promises.specs.AddressLaws.{Parts, parts, from-parts, Step, sector-on, side-on, cylinder-on, step-is, step-index, step-parts}
+use Rattle.promises.specs.ExtentAddresses.{Rising, Between, rising-lower}
 
 module _ (g : Geometry) where
   -- an address, or the one past the last
@@ -32,52 +31,27 @@ module _ (g : Geometry) where
       let p = parts g a h in
       record { either-way = rw h; cylinder-most = omega arith; side-most = p .side-low; sector-most = p .sector-high }
 
-  abbrev address : ℕ → ℕ → ℕ → Address
-  address c s n = record { cylinder = c; side = s; sector = n }
-
-  to-end : (a : Address) (t u : Bool) → Parts g a → ltb (a .sector) (g .D) ≡ t → ltb (a .side + 1) (g .S) ≡ u
-      → EndLegal
-      (cond t (address (a .cylinder) (a .side) (a .sector + 1))
-      (cond u (address (a .cylinder) (a .side + 1) 1)
-      (cond (leb (a .cylinder) (g .L)) (address (a .cylinder + 1) 0 1) a)))
+  past-last : (a b : Address) → Step g a b → Parts g a → g .L < b .cylinder → EndLegal b
   unfolding pastLast
-  to-end a true u p e f =
-      let n = ltb-true (a .sector) (g .D) e in
-      legal-end (address (a .cylinder) (a .side) (a .sector + 1))
-      (from-parts g _
-      (record {
-        cylinder-low = p .cylinder-low;
-        cylinder-high = p .cylinder-high;
-        side-low = p .side-low;
-        sector-low = omega arith;
-        sector-high = omega arith;
-      }))
-  to-end a false true p e f =
-      let s = ltb-true (a .side + 1) (g .S) f in
-      legal-end (address (a .cylinder) (a .side + 1) 1)
-      (from-parts g _
-      (record { cylinder-low = p .cylinder-low; cylinder-high = p .cylinder-high; side-low = s; sector-low = omega arith; sector-high = omega (arith, p) }))
-  to-end a false false p e f =
-      rw (le-leb (a .cylinder) (g .L) (p .cylinder-high))
-      (either (lt-or-le (a .cylinder) (g .L))
-      (λ (l : a .cylinder < g .L).
-      legal-end (address (a .cylinder + 1) 0 1)
-      (from-parts g _
-      (record { cylinder-low = omega arith; cylinder-high = omega arith; side-low = omega (arith, p); sector-low = omega arith; sector-high = omega (arith, p) })))
-      (λ (l : g .L ≤ a .cylinder).
+  past-last a b (sector-on l) p k = absurd (omega (arith, p))
+  past-last a b (side-on l m) p k = absurd (omega (arith, p))
+  past-last a b (cylinder-on l m) p k =
       record {
-        either-way = or-right (legal g (address (a .cylinder + 1) 0 1)) (pastLast g (address (a .cylinder + 1) 0 1)) (rw (eq-eqb (a .cylinder + 1) (g .L + 1) (omega (arith, p))));
+        either-way = or-right (legal g b) (pastLast g b) (rw (eq-eqb (a .cylinder + 1) (g .L + 1) (omega (arith, p))));
         cylinder-most = omega (arith, p);
         side-most = omega (arith, p);
         sector-most = omega (arith, p);
-      }))
+      }
 
-  pub step-end : (a : Address) → legal g a ≡ true → EndLegal (stepped g a)
-  unfolding stepped
-  step-end a h = to-end a (ltb (a .sector) (g .D)) (ltb (a .side + 1) (g .S)) (parts g a h) refl refl
+  step-end : (a : Address) → legal g a ≡ true → EndLegal (stepped g a)
+  step-end a h =
+      let b = stepped g a in
+      either (lt-or-le (g .L) (b .cylinder))
+      (λ (k : g .L < b .cylinder). past-last a b (step-is g a h) (parts g a h) k)
+      (λ (k : b .cylinder ≤ g .L). legal-end b (from-parts g b (step-parts g a b (step-is g a h) (parts g a h) k)))
 
   -- counting the records before one of them
-  pub rising-at : (lo hi : ℕ) (xs : List Address) → Rising g lo hi xs → (k : ℕ) → k < length xs → (d : Address) → Between g lo hi (getD xs k d)
+  rising-at : (lo hi : ℕ) (xs : List Address) → Rising g lo hi xs → (k : ℕ) → k < length xs → (d : Address) → Between g lo hi (getD xs k d)
   rising-at lo hi [] r k l d = absurd (not-suc-le-zero l)
   rising-at lo hi (a ∷ xs) r zero l d = (r .0, r .1, r .2)
   rising-at lo hi (a ∷ xs) r (suc k) l d =
@@ -89,7 +63,7 @@ module _ (g : Geometry) where
   none-before e lo hi (a ∷ xs) r l =
       rw (le-ltb (index g a) (index g e) (omega (arith, r .1)), none-before e (suc (index g a)) hi xs (r .3) (omega (arith, r .1)))
 
-  pub count-at : (lo hi : ℕ) (xs : List Address) → Rising g lo hi xs → (k : ℕ) → k < length xs → (d : Address) → countBefore g (getD xs k d) xs ≡ k
+  count-at : (lo hi : ℕ) (xs : List Address) → Rising g lo hi xs → (k : ℕ) → k < length xs → (d : Address) → countBefore g (getD xs k d) xs ≡ k
   unfolding before
   count-at lo hi [] r k l d = absurd (not-suc-le-zero l)
   count-at lo hi (a ∷ xs) r zero l d =

@@ -11,14 +11,11 @@ use Rattle.standard.specs.Characters.{bytes, every, spaces, isDigit, digits, di
 use Rattle.standard.specs.Addresses.{fiveDigits, addressIn, addressNumber, fiveBytes}
 use Rattle.standard.specs.Writing.{unusedField}
 use Rattle.standard.specs.declared.Address.{Address}
+use Rattle.promises.specs.AddressLaws.{address-eq}
 
 pub digit-is : (n : ℕ) → isDigit (digitOf n) ≡ true
 unfolding isDigit
 digit-is n = rw (le-leb 48 (48 + n % 10) (omega arith), le-leb (48 + n % 10) 57 (omega arith))
-
-digit-value : (n : ℕ) → digitValue (digitOf n) ≡ n % 10
-unfolding digitValue
-digit-value n = omega arith
 
 pub padded-length : (n : ℕ) → length (padded 5 n) ≡ 5
 unfolding padded
@@ -42,10 +39,6 @@ five-digits a =
     let n = addressNumber a in
     rw (digit-is (n / 10 / 10 / 10 / 10), digit-is (n / 10 / 10 / 10), digit-is (n / 10 / 10), digit-is (n / 10), digit-is n)
 
-same-address : (c c′ s s′ n n′ : ℕ) → c ≡ c′ → s ≡ s′ → n ≡ n′
-    → _≡_ {A = Address} (record { cylinder = c; side = s; sector = n }) (record { cylinder = c′; side = s′; sector = n′ })
-same-address c c′ s s′ n n′ e f h = cc
-
 parts-back : (c s n : ℕ) → s < 10 → n < 100 → (N : ℕ) → N ≡ c * 1000 + s * 100 + n → (N / 10 / 10 / 10 ≡ c) × (N / 10 / 10 % 10 ≡ s) × (N / 10 % 10 * 10 + N % 10 ≡ n)
 parts-back c s n hs hn N e = (omega arith, omega arith, omega arith)
 
@@ -57,7 +50,7 @@ unfolding padded addressIn digitValue
 address-back a hc hs hn =
     let N = addressNumber a in
     let p = parts-back (a .cylinder) (a .side) (a .sector) hs hn N refl in
-    same-address _ (a .cylinder) _ (a .side) _ (a .sector) (two-digits (N / 10 / 10 / 10) (omega (arith, p)) ∙ p .0) (omega (arith, p)) (omega (arith, p))
+    address-eq _ a (two-digits (N / 10 / 10 / 10) (omega (arith, p)) ∙ p .0) (omega (arith, p)) (omega (arith, p))
 
 -- U, spaces for 0
 pub unused-length : (U : ℕ) → length (unusedField U) ≡ 5

@@ -1,29 +1,29 @@
 -- Following a file from Start gives the declared list.
 -- Assumes nothing.
-use Prim.Native.Nat.{ℕ, zero, suc, _-_, _≤_}
+use Prim.Native.Nat.{ℕ, zero, suc, _≤_, _-_}
 use mathlib.Core.Path.{_≡_, refl, ap, _∙_}
-use mathlib.Core.Bool.{Bool, true, false, cond, _&&_}
-use mathlib.Core.List.{List, [], _∷_}
-use lib.ListN.{length, getD, take, drop, length-append, length-drop}
+use mathlib.Core.Bool.{Bool, true, false, cond}
+use mathlib.Core.List.{List, [], _∷_, map}
+use lib.ListN.{length, take, drop, length-append, length-drop}
 use lib.Seq.{take-append-seam}
-use lib.Dec.{leb, ltb, eqb}
+use lib.Dec.{ltb}
 use native.Mathlib.Omega.{arith}
-use native.Mathlib.Nat.{zero-mod}
-use borrow.Author.Tests.{ltb-false, le-leb, eq-eqb}
-use Rattle.standard.specs.Refusals.{refuse}
+use borrow.Author.Tests.{le-ltb, ltb-false}
+use Rattle.standard.specs.Pieces.{Params, Token, part, bad, lost}
+use Rattle.standard.specs.Records.{Mode, plain, salvage, File, Met, took, gapped, ended, refused as refusedBy, State, fresh, marked, within, Move, deliver, carry, breach, meet, step, Item, rec, gap, end, no, start, follow, readOn, listed, atLost, afterMove, answer, inFile}
+use Rattle.standard.specs.declared.Place.{Place}
 use Rattle.standard.specs.Layout.{labelAt}
-use Rattle.standard.specs.Pieces.{held, sizeOf, Format, fixed, variable, spanned, Params, Token, part, bad, lost}
-use Rattle.standard.specs.Records.{Mode, plain, salvage, File, Met, took, gapped, ended, refused as refusedBy, State, fresh, marked, within, Move, deliver, carry, breach, meet, atLost, afterMove, answer, step, aligned, inFile, gap, start, follow, readOn}
 use Rattle.standard.specs.Judgement.{judged}
 use Rattle.standard.specs.Files.{openRefusal, fileIn}
-use Rattle.standard.specs.Reading.{Reply, unanswered, replied, replyIn, reply, laidOver}
-use Rattle.standard.specs.declared.Answer.the-variants.{Record as RecordOf}
 use Rattle.standard.specs.declared.Geometry.{Geometry}
-use Rattle.standard.specs.declared.Place.{Place}
 use Rattle.standard.specs.declared.Checked.the-variants.{Passed}
 use Rattle.standard.specs.declared.Judged.the-variants.{Volume}
-use Rattle.promises.specs.PlaceLaws.{Landed, step-lands}
-use Rattle.promises.specs.Following.{Heard, told, onward, following, tooLong, heardIn}
+use Rattle.standard.specs.Refusals.{refuse}
+use Rattle.standard.specs.Reading.{Reply, unanswered, replied, replyIn, reply, laidOver}
+use Rattle.standard.specs.declared.Answer.the-variants.{Record as RecordOf}
+use Rattle.promises.specs.PlaceLaws.{Landed, start-in-file, step-lands}
+use Rattle.promises.specs.ListedLaws.{readOn-listed}
+use Rattle.promises.specs.Following.{Heard, told, onward, following, heard, Fits, tooLong, heardIn}
 
 -- the place behind a gap is in the block behind the lost one
 abbrev Nexts : Met → Type 0
@@ -54,31 +54,16 @@ step-nexts : (m : Mode) (f : File) (pl : Place) → Nexts (step m f pl)
 unfolding step
 step-nexts m f pl = answer-nexts m (f .params) _ _
 
--- Start is in the file
-aligned-start : (f : Format) (R : ℕ) → aligned f R 0 ≡ true
-aligned-start fixed R = rw zero-mod
-aligned-start variable R = refl
-aligned-start spanned R = refl
-
-pub start-in-file : (f : File) → inFile f start ≡ true
-unfolding inFile
-start-in-file f = go (ltb 0 (length (f .blocks))) refl
-  where
-    go : (t : Bool) → ltb 0 (length (f .blocks)) ≡ t
-        → cond t (leb 0 (sizeOf (getD (f .blocks) 0 (held []))) && aligned (f .params .format) (f .params .R) 0) (eqb 0 (length (f .blocks)) && eqb 0 0) ≡ true
-    go true e = rw (le-leb 0 (sizeOf (getD (f .blocks) 0 (held []))) (omega arith), aligned-start (f .params .format) (f .params .R))
-    go false e = rw (eq-eqb 0 (length (f .blocks)) (omega (arith, ltb-false 0 (length (f .blocks)) e)))
-
 -- a reading of an accepted image, of a file that may be opened, is one of the file
 module _ (image : List ℕ) (g : Geometry) (slot : ℕ) (j : judged image ≡ Volume g) (ok : openRefusal g image slot ≡ Passed) where
   abbrev theFile : File
   theFile = fileIn g image (labelAt g image slot)
 
-  pub reply-is : (m : Mode) (pl : Place) (room : ℕ) → reply m image slot pl room ≡ replyIn m theFile pl room
+  reply-is : (m : Mode) (pl : Place) (room : ℕ) → reply m image slot pl room ≡ replyIn m theFile pl room
   unfolding reply
   reply-is m pl room = rw (j, ok)
 
-  pub reply-here : (m : Mode) (pl : Place) (room : ℕ) → inFile theFile pl ≡ true → reply m image slot pl room ≡ replied theFile room (step m theFile pl)
+  reply-here : (m : Mode) (pl : Place) (room : ℕ) → inFile theFile pl ≡ true → reply m image slot pl room ≡ replied theFile room (step m theFile pl)
   unfolding replyIn
   reply-here m pl room h = reply-is m pl room ∙ rw h
 
@@ -117,9 +102,33 @@ module _ (image : List ℕ) (g : Geometry) (slot : ℕ) (j : judged image ≡ Vo
   heard-on n m out ih ended l k = refl
   heard-on n m out ih (refusedBy x) l k = refl
 
-  pub following-is : (n : ℕ) (m : Mode) → Alike n m
+  following-is : (n : ℕ) (m : Mode) → Alike n m
   unfolding following readOn heardIn
   following-is zero m out pl h = refl
   following-is (suc n) m out pl h =
       ap (λ (r : Reply). onward (r .answer) (laidOver (r .body) out) (λ out′ pl′. following n m image slot out′ pl′)) (reply-here m pl (length out) h)
       ∙ heard-on n m out (following-is n m) (step m theFile pl) (step-lands m theFile pl h) (step-nexts m theFile pl)
+
+-- any room: n readings are heard as the first n of the list, up to the first record that is too long
+pub following-any : (image : List ℕ) (g : Geometry) (slot : ℕ) → judged image ≡ Volume g → openRefusal g image slot ≡ Passed
+    → (m : Mode) (n : ℕ) (out : List ℕ) → following n m image slot out start ≡ heardIn (length out) (take n (listed m (fileIn g image (labelAt g image slot))))
+following-any image g slot j ok m n out =
+    let f = fileIn g image (labelAt g image slot) in
+    following-is image g slot j ok n m out start (start-in-file f) ∙ ap (heardIn (length out)) (readOn-listed n m f)
+
+-- with room for every record no refusal 23 is heard
+fits-heard : (room n : ℕ) (is : List Item) → Fits room is → heardIn room (take n is) ≡ take n (map heard is)
+unfolding heardIn
+fits-heard room zero is h = refl
+fits-heard room (suc n) [] h = refl
+fits-heard room (suc n) (rec r ∷ is) h = rw (le-ltb room (length (r .body)) (h .0), fits-heard room n is (h .1))
+fits-heard room (suc n) (gap b ∷ is) h = rw (fits-heard room n is h)
+fits-heard room (suc n) (end ∷ is) h = rw (fits-heard room n is h)
+fits-heard room (suc n) (no x ∷ is) h = rw (fits-heard room n is h)
+
+-- room for every record: n readings are heard as the first n of the list
+pub following-listed : (image : List ℕ) (g : Geometry) (slot : ℕ) → judged image ≡ Volume g → openRefusal g image slot ≡ Passed
+    → (m : Mode) (n : ℕ) (out : List ℕ) → Fits (length out) (listed m (fileIn g image (labelAt g image slot)))
+    → following n m image slot out start ≡ take n (map heard (listed m (fileIn g image (labelAt g image slot))))
+following-listed image g slot j ok m n out h =
+    following-any image g slot j ok m n out ∙ fits-heard (length out) n (listed m (fileIn g image (labelAt g image slot))) h

@@ -1,61 +1,75 @@
-pub mod AcceptedLaws
+-- Tests, lists, bytes.
+pub mod Basics
+pub mod Lists
+pub mod Splices
+-- The image: data addresses, and the sectors that they are in.
+pub mod AddressLaws
 pub mod Tiling
-pub mod OrdinalLaws
-pub mod VolumePromises
-pub mod PlaceMoves
-pub mod PiecesLaws
-pub mod ReadingLaws
-pub mod Tokens
-pub mod SalvageLaws
-pub mod SalvageViews
-pub mod StepLaw
-pub mod PlaceLaws
-pub mod SizeLaws
-pub mod WritingLaws
-pub mod Promises
 pub mod Sectors
-pub mod Following
-pub mod Failing
-pub mod Determined
-pub mod Instance
 pub mod SectorLaws
-pub mod VolumeLaws
+-- The volume: its judgement both ways, its labels and numbers, what is read of the index cylinder.
+pub mod Judging
+pub mod AcceptedLaws
+pub mod LabelRules
+pub mod VolumeNumbers
 pub mod IndexLaws
 pub mod IndexReads
-pub mod ExtentLaws
-pub mod FullLaws
+-- A file's extent: its addresses, what is read of them, its full blocks; what every answer about a file hangs on.
+pub mod ExtentAddresses
+pub mod ExtentReads
+pub mod FullBlocks
 pub mod Locality
-pub mod Elsewhere
+pub mod VolumePromises
+-- A file as its blocks: pieces, the step from place to place, the declared list, salvage.
+pub mod PiecesLaws
+pub mod Tokens
+pub mod ReadingLaws
+pub mod StepLaw
+pub mod PlaceLaws
+pub mod PlaceMoves
+pub mod ListedLaws
+pub mod SalvageLaws
+pub mod SalvageViews
+pub mod NoneLost
+-- Reading and salvage in an image.
+pub mod Following
+pub mod FollowingLaws
+pub mod Failing
 pub mod FailedLaws
 pub mod Failable
-pub mod FollowingLaws
-pub mod ListedLaws
 pub mod WholeLaws
-pub mod ReadingImage
 pub mod SalvageImage
-pub mod Basics
-pub mod Splices
-pub mod SectorRanges
-pub mod Extents
-pub mod Stores
-pub mod Volumes
+pub mod NeverJoined
+pub mod Determined
+pub mod Promises
+pub mod PlainFailed
+-- Records packed into blocks, and read back.
 pub mod Digits
-pub mod Relabelled
-pub mod Passing
-pub mod Frame
-pub mod Fields
-pub mod LabelFacts
-pub mod Packs
+pub mod WritingLaws
+pub mod PackedSizes
+pub mod PackedRecords
+-- Writing in an image.
+pub mod Storing
+pub mod SettingLabel
+pub mod AcceptedWrite
+pub mod AlikeLabels
 pub mod DataEnds
-pub mod Judging
-pub mod Result
-pub mod NewLabel
-pub mod Again
-pub mod Stored
+pub mod WrittenImage
+pub mod WrittenLabel
+pub mod AcceptedAgain
+pub mod StoredBlocks
 pub mod ReadBack
-pub mod Others
-pub mod Finds
-pub mod NoneLost
-pub mod Rewritten
+pub mod OtherFiles
 pub mod WritingPromises
-pub mod Witness
+pub mod WrittenHeard
+pub mod ByteSectors
+-- For code that writes: laws of its loops, the number of blocks from the lengths alone, the image afterwards as a list of writes.
+pub mod StoreLaws
+pub mod NeededLaws
+pub mod SectorWrites
+-- Refusals: each given exactly when its list says so.
+pub mod Refusing
+-- THE DEMANDS
+pub mod Demands
+-- The promises hold of something.
+pub mod Instances

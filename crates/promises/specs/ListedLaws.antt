@@ -1,19 +1,17 @@
 -- So many readings give so much of the declared list.
 -- Assumes nothing.
-use Prim.Native.Nat.{ℕ, zero, suc, _-_, _<_, _≤_}
+use Prim.Native.Nat.{ℕ, zero, suc, _<_, _≤_}
 use mathlib.Core.Path.{_≡_, refl, sym, ap, subst, _∙_}
-use mathlib.Core.List.{List, [], _∷_, map}
+use mathlib.Core.List.{List, [], _∷_}
 use lib.ListN.{length, take}
 use lib.Seq.{take-nil, take-all}
 use native.Mathlib.Omega.{arith}
 use native.Mathlib.Nat.{not-suc-le-zero, le-of-suc-le-suc}
-use borrow.Author.Tests.{le-ltb}
 use Rattle.standard.specs.Pieces.{Params, Token, part, bad, lost, inBlocks}
 use Rattle.standard.specs.Records.{Mode, plain, salvage, File, Met, took, gapped, ended, refused as refusedBy, State, fresh, marked, within, Move, deliver, carry, breach, meet, step, Item, rec, gap, end, no, start, follow, readOn, enough, readAll, joinMove, joinEnd, joinLost, join, listed, stateAfterGap}
 use Rattle.standard.specs.declared.Place.{Place}
-use Rattle.promises.specs.AcceptedLaws.{either, lt-or-le}
+use Rattle.promises.specs.Basics.{either, lt-or-le}
 use Rattle.promises.specs.ReadingLaws.{readAll-listed}
-use Rattle.promises.specs.Following.{heard, Fits, heardIn}
 
 -- fewer readings give the beginning of what more give
 module _ (m : Mode) (f : File) where
@@ -100,13 +98,3 @@ readOn-listed n m f =
     let same : readOn n m f start ≡ listed m f = more m f k n l start (subst Closed (sym e) (listed-closed m f)) ∙ e in
     let short : length (listed m f) ≤ n = rw same at (length-read m f n start) in
     same ∙ sym (take-all n (listed m f) short))
-
--- with room for every record no refusal 23 is heard
-pub fits-heard : (room n : ℕ) (is : List Item) → Fits room is → heardIn room (take n is) ≡ take n (map heard is)
-unfolding heardIn
-fits-heard room zero is h = refl
-fits-heard room (suc n) [] h = refl
-fits-heard room (suc n) (rec r ∷ is) h = rw (le-ltb room (length (r .body)) (h .0), fits-heard room n is (h .1))
-fits-heard room (suc n) (gap b ∷ is) h = rw (fits-heard room n is h)
-fits-heard room (suc n) (end ∷ is) h = rw (fits-heard room n is h)
-fits-heard room (suc n) (no x ∷ is) h = rw (fits-heard room n is h)

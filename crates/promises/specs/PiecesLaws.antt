@@ -1,31 +1,19 @@
 -- Laws of `look`, `pieces` and `ahead`.
 -- Assumes nothing.
-use mathlib.Core.Path.{_≡_, refl, sym, ap, _∙_, subst}
-use Prim.Native.Nat.{ℕ, zero, suc, _+_, _-_, _≤_, _<_}
-use native.Mathlib.Omega.{arith}
-use native.Mathlib.Numerals.{add-one}
-use native.Mathlib.Nat.{not-suc-le-zero, le-of-suc-le-suc, le-refl}
-use mathlib.Core.Bool.{Bool, true, false, cond, not, _&&_, _||_}
+use Prim.Native.Nat.{ℕ, zero, suc, _+_, _≤_, _<_}
+use mathlib.Core.Path.{_≡_, refl, sym, ap, _∙_}
+use mathlib.Core.Bool.{Bool, true, false, cond, _&&_}
 use mathlib.Core.Option.{Option, none, some}
 use mathlib.Core.List.{List, [], _∷_, _++_}
-use lib.ListN.{length, getD, take, drop, length-drop, drop-of-length-le}
-use lib.Seq.{drop-drop, drop-nil}
-use lib.Dec.{T, leb, ltb, eqb, leb→le}
-use Rattle.standard.specs.Pieces.{Block, lostBlock, held, Format, fixed, variable, spanned, Params, Kind, whole, first, middle, last, Piece, blank, broken, piece, lookV, lookS, lookF}
-use Rattle.standard.specs.Pieces.{isFill, mustFill, four, kindOf, sizedV, sizedS, lookF, onlyFillV, onlyFillS, lookV, lookS, lookIn, look, Token, part, bad, lost, afterPart, tokensAt, walk, pieces, inBlock, inBlocks, fromTail, ahead}
-
--- a property of both branches, each under its test
-pub cond-elim : {A : Type 0} (P : A → Type 0) (b : Bool) {x y : A} → (T b → P x) → (T (not b) → P y) → P (cond b x y)
-cond-elim P true h k = h tt
-cond-elim P false h k = k tt
-
-pub and-l : (a b : Bool) → T (a && b) → T a
-and-l true b t = tt
-and-l false b t = t
-
-pub and-r : (a b : Bool) → T (a && b) → T b
-and-r true b t = t
-and-r false b t = absurd t
+use lib.ListN.{length, getD, drop, length-drop, drop-of-length-le}
+use lib.Seq.{drop-drop}
+use lib.Dec.{leb}
+use native.Mathlib.Omega.{arith}
+use native.Mathlib.Numerals.{add-one}
+use native.Mathlib.Nat.{not-suc-le-zero, le-refl}
+use borrow.Author.Tests.{leb-true}
+use Rattle.standard.specs.Pieces.{Block, lostBlock, held, Format, fixed, variable, spanned, Params, Kind, whole, first, middle, last, Piece, blank, broken, piece, lookV, lookS, lookF, isFill, mustFill, four, kindOf, sizedV, sizedS, onlyFillV, onlyFillS, lookIn, look, Token, part, bad, lost, afterPart, tokensAt, walk, pieces, inBlock, inBlocks, fromTail, ahead}
+use Rattle.promises.specs.Basics.{cond-elim, and-l, and-r}
 
 -- a piece takes a byte or more, and no more than there are
 abbrev pub Sound : ℕ → Piece → Type 0
@@ -40,7 +28,7 @@ sizedV-sound : (R : ℕ) (rest : List ℕ) (n : Option ℕ) → Sound (length re
 sizedV-sound R rest none = tt
 sizedV-sound R rest (some n) =
     cond-elim (Sound (length rest)) (leb 4 n && leb n R && leb n (length rest))
-    (λ t. let h : 4 ≤ n = leb→le 4 n (search (and-l, and-r)) in (omega arith, leb→le n (length rest) (search (and-l, and-r))))
+    (λ t. let h : 4 ≤ n = leb-true 4 n (search (and-l, and-r)) in (omega arith, leb-true n (length rest) (search (and-l, and-r))))
     (λ _. tt)
 
 sizedS-sound : (rest : List ℕ) (k : Option Kind) (n : Option ℕ) → Sound (length rest) (sizedS rest k n)
@@ -48,7 +36,7 @@ sizedS-sound rest none n = tt
 sizedS-sound rest (some k) none = tt
 sizedS-sound rest (some k) (some n) =
     cond-elim (Sound (length rest)) (leb 5 n && leb n (length rest))
-    (λ t. let h : 5 ≤ n = leb→le 5 n (search (and-l, and-r)) in (omega arith, leb→le n (length rest) (search (and-l, and-r))))
+    (λ t. let h : 5 ≤ n = leb-true 5 n (search (and-l, and-r)) in (omega arith, leb-true n (length rest) (search (and-l, and-r))))
     (λ _. tt)
 
 lookF-sound : (R : ℕ) (rest : List ℕ) → Sound (length rest) (lookF R rest)
@@ -56,7 +44,7 @@ unfolding lookF
 lookF-sound R [] = tt
 lookF-sound R (x ∷ xs) =
     cond-elim (Sound (suc (length xs))) (leb 1 R && leb R (suc (length xs)))
-    (λ t. (leb→le 1 R (search (and-l, and-r)), leb→le R (suc (length xs)) (search (and-l, and-r))))
+    (λ t. (leb-true 1 R (search (and-l, and-r)), leb-true R (suc (length xs)) (search (and-l, and-r))))
     (λ _. tt)
 
 lookIn-sound : (f : Format) (R : ℕ) (bl : Bool) (o : ℕ) (rest : List ℕ) → Sound (length rest) (lookIn f R bl o rest)
@@ -137,6 +125,16 @@ unfolding inBlocks
 fromTail-start p b [] = refl
 fromTail-start p b (x ∷ xs) = refl
 
+-- what stands ahead in a block that is held, and at the start of the block behind one
+pub held-ahead : (p : Params) (bs : List Block) (b : ℕ) (c : List ℕ) (xs : List Block) → drop b bs ≡ held c ∷ xs
+    → (o : ℕ) → ahead p bs b o ≡ pieces p b o (drop o c) ++ inBlocks p (suc b) xs
+unfolding ahead inBlock
+held-ahead p bs b c xs e o = rw e
+
+pub next-ahead : (p : Params) (bs : List Block) (b : ℕ) (x : Block) (xs : List Block) → drop b bs ≡ x ∷ xs → ahead p bs (suc b) 0 ≡ inBlocks p (suc b) xs
+unfolding ahead
+next-ahead p bs b x xs e = ap (fromTail p (suc b) 0) (drop-tail b bs e) ∙ fromTail-start p (suc b) xs
+
 -- What stands behind a token is what stands ahead of the place that it leads to.
 abbrev pub Ends : Kind → Type 0
 Ends whole = Unit {0}
@@ -156,19 +154,15 @@ module _ (p : Params) (bs : List Block) (b : ℕ) (c : List ℕ) (xs : List Bloc
   rest-chained true o = later
   rest-chained false o = later
 
-  here-ahead : (o : ℕ) → ahead p bs b o ≡ pieces p b o (drop o c) ++ inBlocks p (suc b) xs
-  unfolding ahead inBlock
-  here-ahead o = rw e
-
   tokens-chained : (o : ℕ) (q : Piece) → Sound (length (drop o c)) q
       → ((s : ℕ) → 1 ≤ s → s ≤ length (drop o c) → Chained p bs (pieces p b (o + s) (drop (o + s) c) ++ inBlocks p (suc b) xs))
       → Chained p bs (tokensAt b o (drop o c) (λ o′ r. pieces p b o′ r) q ++ inBlocks p (suc b) xs)
   tokens-chained o blank l ih = later
   tokens-chained o broken l ih = later
-  tokens-chained o (piece whole body s) l ih = rw drop-drop ((λ _. here-ahead (o + s)), ih s (l .0) (l .1))
+  tokens-chained o (piece whole body s) l ih = rw drop-drop ((λ _. held-ahead p bs b c xs e (o + s)), ih s (l .0) (l .1))
   tokens-chained o (piece first body s) l ih = ((λ v. absurd v), rest-chained (isFill (drop s (drop o c))) (o + s))
   tokens-chained o (piece middle body s) l ih = ((λ v. absurd v), rest-chained (isFill (drop s (drop o c))) (o + s))
-  tokens-chained o (piece last body s) l ih = rw drop-drop ((λ _. here-ahead (o + s)), ih s (l .0) (l .1))
+  tokens-chained o (piece last body s) l ih = rw drop-drop ((λ _. held-ahead p bs b c xs e (o + s)), ih s (l .0) (l .1))
 
   pieces-chained : (n o : ℕ) → length c < n + o → Chained p bs (pieces p b o (drop o c) ++ inBlocks p (suc b) xs)
   pieces-chained zero o h = rw (pieces-eq, drop-of-length-le c {i = o} (omega arith), look-nil) later
@@ -176,9 +170,9 @@ module _ (p : Params) (bs : List Block) (b : ℕ) (c : List ℕ) (xs : List Bloc
       rw pieces-eq (tokens-chained o (look p o (drop o c)) (look-sound p o (drop o c)) (λ s l u. pieces-chained n (o + s) (omega arith)))
 
 pub blocks-chained : (p : Params) (bs : List Block) (b : ℕ) (xs : List Block) → drop b bs ≡ xs → Chained p bs (inBlocks p b xs)
-unfolding inBlocks inBlock ahead
+unfolding inBlocks inBlock
 blocks-chained p bs b [] e = tt
 blocks-chained p bs b (lostBlock sz ∷ xs) e =
-    (ap (fromTail p (suc b) 0) (drop-tail b bs e) ∙ fromTail-start p (suc b) xs, blocks-chained p bs (suc b) xs (drop-tail b bs e))
+    (next-ahead p bs b (lostBlock sz) xs e, blocks-chained p bs (suc b) xs (drop-tail b bs e))
 blocks-chained p bs b (held c ∷ xs) e =
     pieces-chained p bs b c xs e (blocks-chained p bs (suc b) xs (drop-tail b bs e)) (suc (length c)) 0 (omega arith)

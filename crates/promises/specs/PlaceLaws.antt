@@ -1,30 +1,22 @@
 -- Each place that a reading hands out is in the file: a caller that goes on from it never meets refusal 19.
 -- Assumes nothing.
-use mathlib.Core.Path.{_≡_, refl, sym, ap, _∙_, subst}
-use Prim.Native.Nat.{ℕ, zero, suc, _+_, _-_, _%_, _≤_, _<_}
-use native.Mathlib.Omega.{arith}
-use native.Mathlib.Nat.{le-refl, zero-mod, add-mod-right}
-use mathlib.Core.Bool.{Bool, true, false, cond, _&&_}
-use mathlib.Core.List.{List, [], _∷_, _++_}
-use lib.ListN.{length, getD, drop, length-drop, drop-of-length-le}
+use Prim.Native.Nat.{ℕ, zero, suc, _+_, _-_, _≤_, _<_}
+use mathlib.Core.Path.{_≡_, refl, sym, ap, _∙_}
+use mathlib.Core.Bool.{Bool, true, false, _&&_}
+use mathlib.Core.List.{List, [], _∷_}
+use lib.ListN.{length, getD, drop, length-drop}
 use lib.Seq.{drop-drop, getD-drop}
-use lib.Dec.{T, leb, ltb, eqb, ltb→lt, leb→le}
-use borrow.Author.Tests.{lt-ltb, le-leb, le-ltb, eq-eqb, ltb-false, leb-true}
-use Rattle.standard.specs.Pieces.{Block, lostBlock, held, sizeOf, Format, fixed, variable, spanned, Params, Kind, whole, first, middle, last, Piece, blank, broken, piece}
-use Rattle.standard.specs.Pieces.{isFill, lookF, lookIn, look, Token, part, bad, lost, afterPart, tokensAt, pieces, inBlock, inBlocks, fromTail, ahead}
-use Rattle.standard.specs.Records.{Mode, plain, salvage, File, Record, Met, took, gapped, ended, refused, State, fresh, marked, within, Move, deliver, carry, breach, meet, atLost, afterMove, answer, entering, step, aligned, inFile}
+use lib.Dec.{leb, ltb}
+use native.Mathlib.Omega.{arith}
+use native.Mathlib.Nat.{zero-mod, add-mod-right}
+use borrow.Author.Tests.{lt-ltb, le-leb, eq-eqb, ltb-false, leb-true, ltb-true}
+use Rattle.standard.specs.Records.{start, Mode, plain, salvage, File, Met, took, gapped, ended, refused, State, fresh, marked, within, Move, deliver, carry, breach, meet, atLost, afterMove, answer, entering, step, aligned, inFile}
+use Rattle.standard.specs.Pieces.{Block, lostBlock, held, sizeOf, Format, fixed, variable, spanned, Params, Kind, Piece, blank, broken, piece, lookF, lookIn, look, Token, part, bad, lost, tokensAt, pieces, inBlock, inBlocks, fromTail, ahead}
 use Rattle.standard.specs.declared.Place.{Place}
-use Rattle.promises.specs.PiecesLaws.{cond-elim, Sound, look-sound, look-nil, pieces-eq, drop-tail}
-use Rattle.promises.specs.Tokens.{Every, every-append}
-
-and-l : (a b : Bool) → (a && b) ≡ true → a ≡ true
-and-l true b h = refl
-and-l false b h = h
-
-and-r : (a b : Bool) → (a && b) ≡ true → b ≡ true
-and-r true b h = h
-and-r false true h = refl
-and-r false false h = h
+use Rattle.promises.specs.Basics.{cond-elim, and-l, and-r}
+use Rattle.promises.specs.Lists.{Every, every-append}
+use Rattle.promises.specs.PiecesLaws.{Sound, look-sound, pieces-eq, drop-tail}
+use Rattle.promises.specs.Tokens.{afterPart-every}
 
 abbrev at : ℕ → ℕ → Bool → Place
 at b o g = record { block = b; offset = o; mark = g }
@@ -73,16 +65,19 @@ in-block : (f : File) (b o : ℕ) → b < length (f .blocks) → o ≤ sizeOf (g
 unfolding inFile
 in-block f b o h l a g = rw (lt-ltb b (length (f .blocks)) h, le-leb o (sizeOf (getD (f .blocks) b (held []))) l, a)
 
-in-next : (f : File) (b : ℕ) → b < length (f .blocks) → InFile f (suc b) 0
+-- the start of a block, and of the one behind the last
+in-start : (f : File) (b : ℕ) → b ≤ length (f .blocks) → InFile f b 0
 unfolding inFile
-in-next f b h g = go (ltb (suc b) (length (f .blocks))) refl
+in-start f b h g = go (ltb b (length (f .blocks))) refl
   where
-    go : (t : Bool) → ltb (suc b) (length (f .blocks)) ≡ t → inFile f (at (suc b) 0 g) ≡ true
-    go true q = in-block f (suc b) 0 (ltb→lt (suc b) (length (f .blocks)) (rw q tt)) (omega arith) (aligned-start (f .params .format) (f .params .R)) g
+    go : (t : Bool) → ltb b (length (f .blocks)) ≡ t → inFile f (at b 0 g) ≡ true
+    go true q = in-block f b 0 (ltb-true b (length (f .blocks)) q) (omega arith) (aligned-start (f .params .format) (f .params .R)) g
     go false q =
-        let l : length (f .blocks) ≤ suc b = ltb-false (suc b) (length (f .blocks)) q in
-        let e : suc b ≡ length (f .blocks) = omega arith in
-        rw (q, eq-eqb (suc b) (length (f .blocks)) e)
+        let e : b ≡ length (f .blocks) = omega (arith, ltb-false b (length (f .blocks)) q) in
+        rw (q, eq-eqb b (length (f .blocks)) e)
+
+pub start-in-file : (f : File) → inFile f start ≡ true
+start-in-file f = in-start f 0 (omega arith) false
 
 -- in F a record takes R bytes
 abbrev Stride : Format → ℕ → Piece → Type 0
@@ -116,12 +111,6 @@ module _ (f : File) (b : ℕ) (c : List ℕ) (inside : b < length (f .blocks)) (
   place-of : (o : ℕ) → Good f o (length c) → InFile f b o
   place-of o h = in-block f b o inside (rw here (h .0)) (h .1)
 
-  afterPart-lands : (k : Kind) (o : ℕ) (rest : List ℕ) (more : List Token) → Every (Lands f) more → Every (Lands f) (afterPart k b o rest more)
-  afterPart-lands whole o rest more h = h
-  afterPart-lands first o rest more h = cond-elim (Every (Lands f)) (isFill rest) (λ _. tt) (λ _. (tt, tt))
-  afterPart-lands middle o rest more h = cond-elim (Every (Lands f)) (isFill rest) (λ _. tt) (λ _. (tt, tt))
-  afterPart-lands last o rest more h = h
-
   tokens-land : (o : ℕ) (q : Piece) → Sound (length (drop o c)) q → Stride (f .params .format) (f .params .R) q → Good f o (length c)
       → ((s : ℕ) → 1 ≤ s → Good f (o + s) (length c) → Every (Lands f) (pieces (f .params) b (o + s) (drop (o + s) c)))
       → Every (Lands f) (tokensAt b o (drop o c) (λ o′ r. pieces (f .params) b o′ r) q)
@@ -130,7 +119,7 @@ module _ (f : File) (b : ℕ) (c : List ℕ) (inside : b < length (f .blocks)) (
   tokens-land o (piece kd body s) l t h k =
       let n : length (drop o c) ≡ length c - o = length-drop o c in
       let w : Good f (o + s) (length c) = (omega (arith, h .0, l .1), aligned-next (f .params .format) (f .params .R) o s kd body t (h .1)) in
-      (place-of (o + s) w, afterPart-lands kd (o + s) (drop s (drop o c)) (pieces (f .params) b (o + s) (drop s (drop o c))) (rw (drop-drop s o c) (k s (l .0) w)))
+      (place-of (o + s) w, afterPart-every (Lands f) b (λ _. tt) kd (o + s) (drop s (drop o c)) (pieces (f .params) b (o + s) (drop s (drop o c))) (rw (drop-drop s o c) (k s (l .0) w)))
 
   pieces-land : (n o : ℕ) → length c < n + o → Good f o (length c) → Every (Lands f) (pieces (f .params) b o (drop o c))
   unfolding look
@@ -155,7 +144,7 @@ good-of f b o c i q h =
 blocks-land : (f : File) (b : ℕ) (xs : List Block) → drop b (f .blocks) ≡ xs → Every (Lands f) (inBlocks (f .params) b xs)
 unfolding inBlocks inBlock
 blocks-land f b [] e = tt
-blocks-land f b (lostBlock sz ∷ xs) e = (in-next f b (drop-inside b (f .blocks) (lostBlock sz) (held []) xs e .0), blocks-land f (suc b) xs (drop-tail b (f .blocks) e))
+blocks-land f b (lostBlock sz ∷ xs) e = (in-start f (suc b) (drop-inside b (f .blocks) (lostBlock sz) (held []) xs e .0), blocks-land f (suc b) xs (drop-tail b (f .blocks) e))
 blocks-land f b (held c ∷ xs) e =
     let (i, h) = drop-inside b (f .blocks) (held c) (held []) xs e in
     every-append (Lands f) (pieces (f .params) b 0 c) (inBlocks (f .params) (suc b) xs)
@@ -165,7 +154,7 @@ blocks-land f b (held c ∷ xs) e =
 tail-land : (f : File) (b o : ℕ) (xs : List Block) → drop b (f .blocks) ≡ xs → InFile f b o → Every (Lands f) (fromTail (f .params) b o xs)
 unfolding inBlock
 tail-land f b o [] e h = tt
-tail-land f b o (lostBlock sz ∷ xs) e h = (in-next f b (drop-inside b (f .blocks) (lostBlock sz) (held []) xs e .0), blocks-land f (suc b) xs (drop-tail b (f .blocks) e))
+tail-land f b o (lostBlock sz ∷ xs) e h = (in-start f (suc b) (drop-inside b (f .blocks) (lostBlock sz) (held []) xs e .0), blocks-land f (suc b) xs (drop-tail b (f .blocks) e))
 tail-land f b o (held c ∷ xs) e h =
     let (i, q) = drop-inside b (f .blocks) (held c) (held []) xs e in
     every-append (Lands f) (pieces (f .params) b o (drop o c)) (inBlocks (f .params) (suc b) xs)

@@ -1,63 +1,52 @@
--- THIRD THEOREM ON WRITING: what was written is read back from the image.
+-- What was written is read back from the image; and the file can be written again.
 -- Assumes nothing.
-use Prim.Native.Nat.{ℕ, suc, _-_, _*_, _/_, _≤_}
-use mathlib.Core.Path.{_≡_, refl, sym, ap, _∙_}
-use mathlib.Core.Bool.{Bool, true, false, cond, _&&_}
+use Prim.Native.Nat.{ℕ, _+_, _<_, suc, _*_, _≤_}
+use mathlib.Core.Path.{_≡_, refl, sym, _∙_, ap}
+use mathlib.Core.Bool.{and-false, true, false, _&&_}
 use mathlib.Core.List.{List, [], _∷_, map}
 use lib.ListN.{length}
 use lib.Dec.{ltb, eqb}
 use native.Mathlib.Omega.{arith}
-use native.Mathlib.Nat.{le-div-iff-mul-le, div-add-mod'}
-use borrow.Author.Tests.{ltb-true, ltb-false, ne-eqb}
-use Rattle.standard.specs.Characters.{at, isSpace, number}
+use native.Mathlib.Nat.{le-div-iff-mul-le}
+use borrow.Author.Tests.{ne-eqb}
 use Rattle.standard.specs.Layout.{labelAt}
-use Rattle.standard.specs.Addresses.{legal, index, ordinal}
-use Rattle.standard.specs.Labels.{knownLevel, blockLength, unusedCount, startOf, endOf, paramsOf}
 use Rattle.standard.specs.Slots.{hasLabel}
-use Rattle.standard.specs.Judgement.{judged, volumeOf}
-use Rattle.standard.specs.Refusals.{refuse, given-when}
-use Rattle.standard.specs.Pieces.{held}
-use Rattle.standard.specs.Records.{plain, readAll}
-use Rattle.standard.specs.Files.{extentSize, extent, isDefective, goodAmong, goodRecords, recordsToBlock, goodBefore, dataEndAtStart, dataEndInExtent, blocksHeld, blockCount, isWrong, wrongAmong, splitsBlock, openRefusal, blocksFrom, fileIn, fileAt}
-use Rattle.standard.specs.Packing.{fileOf}
-use Rattle.standard.specs.Writing.{parted, needed, packed, writeRefusal, imageWith, imageAfter}
+use Rattle.standard.specs.Judgement.{judged}
+use Rattle.standard.specs.Files.{extent, wrongAmong, blocksHeld, extentSize, isDefective, goodAmong, goodRecords, recordsToBlock, goodBefore, dataEndAtStart, dataEndInExtent, blockCount, isWrong, splitsBlock, openRefusal, blocksFrom, fileIn}
+use Rattle.standard.specs.Writing.{wrongLength, lengthsFrom, packed, writeRefusal, needed, imageWith}
 use Rattle.standard.specs.declared.Geometry.{Geometry}
-use Rattle.standard.specs.declared.Address.{Address}
 use Rattle.standard.specs.declared.Checked.the-variants.{Passed}
 use Rattle.standard.specs.declared.Judged.the-variants.{Volume}
-use Rattle.promises.specs.AcceptedLaws.{InRange, stop-first, stop-rest}
-use Rattle.promises.specs.WritingLaws.{Reads}
-use Rattle.promises.specs.Extents.{Every, every-map, every-both, rising-legal, extent-rising, good-rising}
-use Rattle.promises.specs.Stores.{blocks-defective, blocks-right, defective-same, wrong-same}
-use Rattle.promises.specs.Volumes.{numbers, image-length}
-use Rattle.promises.specs.Relabelled.{set-data}
-use Rattle.promises.specs.Passing.{passing}
-use Rattle.promises.specs.Frame.{takenBy, stored, label-range, slot-inside, taken-legal, taken-good, stored-whole, after-is}
-use Rattle.promises.specs.Fields.{Alike, f23, f29, f35, a42, a45, known, params-same}
-use Rattle.promises.specs.LabelFacts.{blocks-whole}
-use Rattle.promises.specs.Packs.{Sized}
-use Rattle.promises.specs.Judging.{order-on, order-none}
-use Rattle.promises.specs.Result.{unused, dataEnd, result, result-whole, result-label}
-use Rattle.promises.specs.NewLabel.{old-rules, packing, new-unused, records-some, ends, new-end}
-use Rattle.promises.specs.Again.{this-is-label, again}
-use Rattle.promises.specs.Stored.{Same, Holds, holds-same, Fitting, stored-holds, sizes-fitting, file-blocks}
+use Rattle.standard.specs.Refusals.{given-when}
+use Rattle.standard.specs.Characters.{at, isSpace, number}
+use Rattle.standard.specs.Addresses.{legal, index}
+use Rattle.standard.specs.Labels.{knownLevel, blockLength, unusedCount, startOf, endOf, paramsOf}
+use Rattle.standard.specs.Pieces.{held}
+use Rattle.standard.specs.Packing.{fileOf}
+use Rattle.standard.specs.declared.Address.{Address}
+use Rattle.promises.specs.Lists.{Every, every-map, every-both}
+use Rattle.promises.specs.AddressLaws.{Legal}
+use Rattle.promises.specs.Tiling.{lengths}
+use Rattle.promises.specs.Judging.{order-all}
+use Rattle.promises.specs.AcceptedLaws.{image-length, InRange}
+use Rattle.promises.specs.LabelRules.{block-fits}
+use Rattle.promises.specs.VolumeNumbers.{numbers-of}
+use Rattle.promises.specs.ExtentAddresses.{good-rising, extent-legal, good-legal}
+use Rattle.promises.specs.ExtentReads.{none-wrong, wrong-none, SameSector, SameDefect, same-defect, same-wrong, same-good}
+use Rattle.promises.specs.PackedRecords.{Sized}
+use Rattle.promises.specs.Storing.{blocks-right, blocks-defective}
+use Rattle.promises.specs.SettingLabel.{set-data}
+use Rattle.promises.specs.AcceptedWrite.{passing, takenBy, stored, label-range, slot-inside, taken-legal, taken-good, stored-whole}
+use Rattle.promises.specs.AlikeLabels.{Alike, f23, f29, f35, a42, a43, a45, known, format-same, record-same, params-same}
+use Rattle.promises.specs.WrittenImage.{unused, dataEnd, result, result-label}
+use Rattle.promises.specs.WrittenLabel.{old-rules, packing, new-unused, records-some, ends, new-end}
+use Rattle.promises.specs.AcceptedAgain.{this-is-label}
+use Rattle.promises.specs.StoredBlocks.{Holds, holds-same, stored-holds, sizes-fitting, file-blocks}
 
--- the good records, and 17, from what is so of each record
-pub good-same : (g : Geometry) (s t : List ℕ) (xs : List Address) → Every (λ a. isDefective g t a ≡ isDefective g s a) xs → goodAmong g t xs ≡ goodAmong g s xs
-unfolding goodAmong
-good-same g s t [] h = refl
-good-same g s t (a ∷ xs) h = rw (h .0, good-same g s t xs (h .1))
-
-pub none-wrong : (g : Geometry) (s : List ℕ) (xs : List Address) → wrongAmong g s xs ≡ Passed → Every (λ a. isWrong g s a ≡ false) xs
-unfolding wrongAmong
-none-wrong g s [] h = tt
-none-wrong g s (a ∷ xs) h =
-    (stop-first (isWrong g s a) _ (wrongAmong g s xs) h, none-wrong g s xs (stop-rest (isWrong g s a) (refuse 17 (ordinal g a)) (wrongAmong g s xs) h))
-
-pub wrong-none : (g : Geometry) (s : List ℕ) (xs : List Address) → Every (λ a. isWrong g s a ≡ false) xs → wrongAmong g s xs ≡ Passed
-unfolding wrongAmong
-wrong-none g s [] h = refl
-wrong-none g s (a ∷ xs) h = rw (h .0) (wrong-none g s xs (h .1))
+lengths-same : (h k : List ℕ) → Alike h k → (i : ℕ) (lengths : List ℕ) → lengthsFrom k i lengths ≡ lengthsFrom h i lengths
+unfolding lengthsFrom wrongLength
+lengths-same h k a i [] = refl
+lengths-same h k a i (n ∷ lengths) = rw (format-same h k a, f23 h k a, record-same h k a, lengths-same h k a (i + 1) lengths)
 
 module _ (image : List ℕ) (g : Geometry) (slot : ℕ) (bodies lengths : List ℕ) (j : judged image ≡ Volume g)
     (w : writeRefusal g image slot bodies lengths ≡ Passed) where
@@ -85,56 +74,49 @@ module _ (image : List ℕ) (g : Geometry) (slot : ℕ) (bodies lengths : List �
   range : InRange g h
   range = label-range image g slot bodies lengths j w
 
-  room : 1 ≤ g .P
-  room = numbers image g j .room
+  room : 0 < g .P
+  room = numbers-of image g j .size-low
 
   -- setting the label leaves the data
-  set-same : (a : Address) → legal g a ≡ true → Same g st t a
+  set-same : (a : Address) → legal g a ≡ true → SameSector g st t a
   unfolding imageWith
   set-same a la =
-      set-data g (numbers image g j) slot (slot-inside image g slot bodies lengths j w) U (dataEnd image g slot bodies lengths j w) st
+      set-data g (numbers-of image g j) slot (slot-inside image g slot bodies lengths j w) U (dataEnd image g slot bodies lengths j w) st
       (stored-whole image g slot bodies lengths j w) a la
-
-  set-size : length t ≡ length st
-  set-size = result-whole image g slot bodies lengths j w ∙ sym (stored-whole image g slot bodies lengths j w)
 
   -- the extent and its good records are the same
   extent-same : extent g k ≡ extent g h
   unfolding extent extentSize
   extent-same = rw (f29 h k alike, f35 h k alike)
 
-  extent-legal : Every (λ a. legal g a ≡ true) (extent g h)
-  extent-legal = rising-legal g (index g (startOf h)) (index g (endOf h)) (extent g h) (extent-rising g h range)
-
-  defective-kept : (a : Address) → legal g a ≡ true → isDefective g t a ≡ isDefective g image a
+  defective-kept : (a : Address) → legal g a ≡ true → isDefective g image a ≡ isDefective g t a
   defective-kept a la =
-      defective-same g room a la st t (set-same a la)
-      ∙ blocks-defective g room a la (recordsToBlock g h) cs (goodRecords g image h) image
-      (every-both (λ x. legal g x ≡ true) (λ x. isDefective g image x ≡ false) (takenBy g image h (needed h bodies lengths))
+      blocks-defective g room a (recordsToBlock g h) cs (goodRecords g image h) image
+      (every-both (Legal g) (λ x. isDefective g image x ≡ false) (takenBy g image h (needed h bodies lengths))
       (taken-legal image g slot bodies lengths j w) (taken-good image g slot bodies lengths j w)) (image-length image g j)
+      ∙ same-defect g st t room a (set-same a la)
 
-  pub good-kept : goodRecords g t k ≡ goodRecords g image h
+  good-kept : goodRecords g t k ≡ goodRecords g image h
   unfolding goodRecords
   good-kept =
       ap (goodAmong g t) extent-same
-      ∙ good-same g image t (extent g h)
-      (every-map (λ a. legal g a ≡ true) (λ a. isDefective g t a ≡ isDefective g image a) defective-kept (extent g h) extent-legal)
+      ∙ sym (same-good g image t (extent g h) (every-map (Legal g) (SameDefect g image t) defective-kept (extent g h) (extent-legal g h range)))
 
   wrong-kept : (a : Address) → (legal g a ≡ true) × (isWrong g image a ≡ false) → isWrong g t a ≡ false
   wrong-kept a q =
-      wrong-same g room a (q .0) st t (set-same a (q .0))
-      ∙ blocks-right g room a (q .0) (recordsToBlock g h) cs (goodRecords g image h) image (taken-legal image g slot bodies lengths j w) (image-length image g j) (q .1)
+      sym (same-wrong g st t room a (set-same a (q .0)))
+      ∙ blocks-right g room a (recordsToBlock g h) cs (goodRecords g image h) image (taken-legal image g slot bodies lengths j w) (image-length image g j) (q .1)
 
-  pub right-kept : wrongAmong g t (extent g k) ≡ Passed
+  right-kept : wrongAmong g t (extent g k) ≡ Passed
   right-kept =
       ap (wrongAmong g t) extent-same
       ∙ wrong-none g t (extent g h)
       (every-map (λ a. (legal g a ≡ true) × (isWrong g image a ≡ false)) (λ a. isWrong g t a ≡ false) wrong-kept (extent g h)
-      (every-both (λ a. legal g a ≡ true) (λ a. isWrong g image a ≡ false) (extent g h) extent-legal
+      (every-both (Legal g) (λ a. isWrong g image a ≡ false) (extent g h) (extent-legal g h range)
       (none-wrong g image (extent g h) (passing g image slot bodies lengths w .right))))
 
   -- m, and the number of blocks
-  pub m-same : recordsToBlock g k ≡ recordsToBlock g h
+  m-same : recordsToBlock g k ≡ recordsToBlock g h
   unfolding recordsToBlock
   m-same = rw (f23 h k alike)
 
@@ -155,52 +137,36 @@ module _ (image : List ℕ) (g : Geometry) (slot : ℕ) (bodies lengths : List �
       go : (ds : List (List ℕ)) → Sized (blockLength h) U ds → (ltb 0 U && eqb (length ds) 0) ≡ false
       go [] z = rw z
       go (d ∷ ds) z = rw (ne-eqb (suc (length ds)) 0 (λ (q : suc (length ds) ≡ 0). omega arith)) (and-false (ltb 0 U))
-        where
-          and-false : (b : Bool) → (b && false) ≡ false
-          and-false true = refl
-          and-false false = refl
 
   -- THE FILE OPENS
-  pub opens : openRefusal g t slot ≡ Passed
+  pub opens-back : openRefusal g t slot ≡ Passed
   unfolding openRefusal hasLabel given-when
-  opens =
+  opens-back =
       let p = passing g image slot bodies lengths w in
-      let l : hasLabel g t slot ≡ true = rw (this-is-label image g slot bodies lengths j w) (p .labelled) in
+      let l : hasLabel g t slot ≡ true = rw (this-is-label image g slot bodies lengths j w) at (p .labelled) in
       let kn : knownLevel k ≡ true = known h k alike ∙ p .known in
       let s42 : isSpace (at k 42) ≡ true = rw (a42 h k alike) (p .plain42) in
       let s45 : isSpace (at k 45) ≡ true = rw (a45 h k alike) (p .plain45) in
-      order-on _ _ (rw l) (order-on _ _ (rw kn) (order-on _ _ (rw s42) (order-on _ _ (rw s45) (order-on _ _ right-kept
-      (order-on _ _ (rw (splits-none, unused-none)) order-none)))))
+      order-all _ (rw l, (rw kn, (rw s42, (rw s45, (right-kept, (rw (splits-none, unused-none), tt))))))
 
-  -- the blocks have room, and the good records suffice
-  capacity : blockLength h ≤ recordsToBlock g h * g .P
-  unfolding recordsToBlock
-  capacity = go (ltb (g .P) (blockLength h)) refl
-    where
-      go : (b : Bool) → ltb (g .P) (blockLength h) ≡ b → blockLength h ≤ cond b (blockLength h / g .P) 1 * g .P
-      go true q =
-          let e = blocks-whole g h (old-rules image g slot bodies lengths j w) (ltb-true (g .P) (blockLength h) q) in
-          omega (arith, div-add-mod' (blockLength h) (g .P))
-      go false q = omega (arith, ltb-false (g .P) (blockLength h) q)
-
-  enough-records : length cs * recordsToBlock g h ≤ length (goodRecords g image h)
+  -- the good records suffice, and the blocks have room
+  pub enough-records : length cs * recordsToBlock g h ≤ length (goodRecords g image h)
   unfolding blocksHeld
   enough-records = le-div-iff-mul-le (records-some image g slot bodies lengths j w) .0 (passing g image slot bodies lengths w .held)
 
-  fitting : Fitting g (recordsToBlock g h * g .P) cs
+  fitting : Every (λ c. length c ≤ recordsToBlock g h * g .P) cs
   unfolding packed
   fitting = go cs (packing image g slot bodies lengths j w .sized)
     where
-      go : (ds : List (List ℕ)) → Sized (blockLength h) U ds → Fitting g (recordsToBlock g h * g .P) ds
+      go : (ds : List (List ℕ)) → Sized (blockLength h) U ds → Every (λ c. length c ≤ recordsToBlock g h * g .P) ds
       go [] z = tt
-      go (d ∷ ds) z = sizes-fitting (blockLength h) U d ds (recordsToBlock g h * g .P) z capacity g
+      go (d ∷ ds) z = sizes-fitting (blockLength h) U d ds (recordsToBlock g h * g .P) z (block-fits g h (old-rules image g slot bodies lengths j w))
 
   holds : Holds g (recordsToBlock g h) t cs (goodRecords g image h)
   holds =
       let r = good-rising g h range image in
-      holds-same g (recordsToBlock g h) st t set-size cs (goodRecords g image h)
-      (every-map (λ a. legal g a ≡ true) (Same g st t) set-same (goodRecords g image h)
-      (rising-legal g (index g (startOf h)) (index g (endOf h)) (goodRecords g image h) r))
+      holds-same g (recordsToBlock g h) st t cs (goodRecords g image h)
+      (every-map (Legal g) (SameSector g st t) set-same (goodRecords g image h) (good-legal g h range image))
       (stored-holds g (recordsToBlock g h) (index g (startOf h)) (index g (endOf h)) cs (goodRecords g image h) image r enough-records fitting (image-length image g j))
 
   blocks-back : (ds : List (List ℕ)) → Sized (blockLength h) U ds → Holds g (recordsToBlock g h) t ds (goodRecords g image h)
@@ -217,30 +183,23 @@ module _ (image : List ℕ) (g : Geometry) (slot : ℕ) (bodies lengths : List �
       let b : blocksFrom g t k (length cs) (goodRecords g image h) ≡ map held cs = blocks-back cs (unfold packed in packing image g slot bodies lengths j w .sized) holds in
       rw (count-back, good-kept, b, params-same h k alike)
 
-  -- THE READ-BACK
-  pub reads-back : Reads (readAll plain (fileIn g t k)) (parted bodies lengths)
+  -- WRITTEN AGAIN: the same writes are accepted and refused as before
+  has-kept : hasLabel g t slot ≡ hasLabel g image slot
+  unfolding hasLabel
+  has-kept = rw (sym (this-is-label image g slot bodies lengths j w))
+
+  right-same : wrongAmong g t (extent g k) ≡ wrongAmong g image (extent g h)
+  right-same = right-kept ∙ sym (passing g image slot bodies lengths w .right)
+
+  room-same : blocksHeld g t k ≡ blocksHeld g image h
+  unfolding blocksHeld
+  room-same = rw (good-kept, m-same)
+
+  packed-same : (b l : List ℕ) → packed k b l ≡ packed h b l
   unfolding packed
-  reads-back = rw file-back (packing image g slot bodies lengths j w .reads)
+  packed-same b l = rw (params-same h k alike, f23 h k alike)
 
-  -- ---- in terms of the image afterwards
-  abbrev pub after : List ℕ
-  after = imageAfter image slot bodies lengths
-
-  same-image : after ≡ t
-  same-image = after-is image g slot bodies lengths j w
-
-  pub opens-after : openRefusal g after slot ≡ Passed
-  opens-after = ap (λ (s : List ℕ). openRefusal g s slot) same-image ∙ opens
-
-  pub file-after : fileIn g after (labelAt g after slot) ≡ fileOf (paramsOf (labelAt g image slot)) (packed (labelAt g image slot) bodies lengths .contents)
-  file-after = ap (λ (s : List ℕ). fileIn g s (labelAt g s slot)) same-image ∙ file-back
-
-  pub file-at-after : fileAt after slot ≡ fileOf (paramsOf (labelAt g image slot)) (packed (labelAt g image slot) bodies lengths .contents)
-  unfolding fileAt
-  file-at-after =
-      ap (λ (s : List ℕ). fileIn (volumeOf s) s (labelAt (volumeOf s) s slot)) same-image
-      ∙ (ap (λ (x : Geometry). fileIn x t (labelAt x t slot)) (again image g slot bodies lengths j w .numbers) ∙ file-back)
-
-  pub read-back : Reads (readAll plain (fileAt after slot)) (parted bodies lengths)
-  unfolding packed
-  read-back = rw file-at-after (packing image g slot bodies lengths j w .reads)
+  pub written-again : (b l : List ℕ) → writeRefusal g t slot b l ≡ writeRefusal g image slot b l
+  unfolding writeRefusal given-when
+  written-again b l =
+      rw (has-kept, known h k alike, a42 h k alike, a45 h k alike, a43 h k alike, right-same, lengths-same h k alike 0 l, room-same, packed-same b l)

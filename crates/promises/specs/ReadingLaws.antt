@@ -1,20 +1,17 @@
--- THE FIRST THEOREM: reading from Start step by step, plain or salvage, gives the declared list.
+-- THE READING THEOREM: reading from Start step by step, plain or salvage, gives the declared list.
 -- Assumes nothing.
-use mathlib.Core.Path.{_≡_, refl, sym, ap, _∙_, subst}
-use Prim.Native.Nat.{ℕ, zero, suc, _+_, _-_, _≤_, _<_}
+use Prim.Native.Nat.{ℕ, zero, suc, _≤_, _<_}
+use mathlib.Core.Path.{_≡_, refl, ap}
+use mathlib.Core.Bool.{true, false}
+use mathlib.Core.List.{map, List, [], _∷_, _++_}
+use lib.ListN.{length, length-append}
 use native.Mathlib.Omega.{arith}
-use native.Mathlib.Nat.{not-suc-le-zero, le-of-suc-le-suc, le-refl}
-use mathlib.Core.Bool.{Bool, true, false, cond, not, _&&_, _||_}
-use mathlib.Core.List.{List, [], _∷_, _++_}
-use lib.ListN.{length, drop, length-append}
-use lib.Dec.{T, leb, ltb}
-use Rattle.standard.specs.Pieces.{Block, lostBlock, held, Format, fixed, variable, spanned, Params, Kind, whole, first, middle, last}
-use Rattle.standard.specs.Pieces.{Token, part, bad, lost, walk, pieces, inBlock, inBlocks, fromTail, ahead}
-use Rattle.standard.specs.Records.{Mode, plain, salvage, File, Record, Met, took, gapped, ended, refused, State, fresh, marked, within, Move, deliver, carry, breach}
+use native.Mathlib.Nat.{not-suc-le-zero, le-of-suc-le-suc}
+use Rattle.standard.specs.Records.{end, Record, Mode, plain, salvage, File, State, fresh, marked, within, Move, deliver, carry, breach, over, meet, atLost, afterMove, answer, entering, step, Item, rec, gap, start, follow, readOn, enough, readAll, stateAfterGap, joinMove, joinLost, join, listed}
+use Rattle.standard.specs.Pieces.{Block, lostBlock, held, Format, fixed, variable, spanned, Params, Kind, whole, first, middle, last, Token, part, bad, lost, walk, pieces, inBlock, inBlocks, ahead}
 use Rattle.standard.specs.declared.Place.{Place}
-use Rattle.standard.specs.Records.{over, meet, atEnd, atLost, afterMove, answer, entering, step, Item, rec, gap, end, no, start, follow, readOn, enough, readAll}
-use Rattle.standard.specs.Records.{stateAfterGap, joinMove, joinEnd, joinLost, join, listed, records}
-use Rattle.promises.specs.PiecesLaws.{cond-elim, Ends, Chained, blocks-chained, fromTail-start, walk-length}
+use Rattle.promises.specs.Basics.{cond-elim}
+use Rattle.promises.specs.PiecesLaws.{walk-length, fromTail-start, Ends, Chained, blocks-chained}
 
 -- only a whole or a last piece delivers
 abbrev Delivers : Kind → Move → Type 0
@@ -103,3 +100,19 @@ readOn-start m f (suc n) h =
 pub readAll-listed : (m : Mode) (f : File) → readAll m f ≡ listed m f
 unfolding readAll
 readAll-listed m f = readOn-start m f (enough (f .blocks)) (enough-is (f .params) 0 (f .blocks))
+
+-- the list of a reading that refused nothing
+abbrev pub Clean : List Item → List Record → Type 0
+Clean is rs = is ≡ map rec rs ++ (end ∷ [])
+
+abbrev pub bodyOf : Record → List ℕ
+bodyOf r = r .body
+
+-- the reading gives these bodies, and then End
+pub record Reads (is : List Item) (xs : List (List ℕ)) : Type 0 where
+  pub rs : List Record
+  pub same : map bodyOf rs ≡ xs
+  pub clean : Clean is rs
+
+pub reads-cons : {is : List Item} {xs : List (List ℕ)} (r : Record) → Reads is xs → Reads (rec r ∷ is) (r .body ∷ xs)
+reads-cons r h = record { rs = r ∷ h .rs; same = ap (λ (ys : List (List ℕ)). r .body ∷ ys) (h .same); clean = ap (λ (is : List Item). rec r ∷ is) (h .clean) }

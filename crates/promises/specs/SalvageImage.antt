@@ -1,13 +1,11 @@
 -- Salvage at the image: a file that plain reading reads to End, and sectors that then fail.
 -- Assumes nothing.
-use Prim.Native.Nat.{ℕ, zero, suc, _+_, _*_, _≤_}
+use Prim.Native.Nat.{ℕ, zero, suc, _*_, _≤_}
 use mathlib.Core.Path.{_≡_, refl, sym, ap, subst, _∙_}
-use mathlib.Core.Bool.{Bool, true, false, cond, _&&_, _||_}
+use mathlib.Core.Bool.{Bool, true, false, cond, _&&_}
 use mathlib.Core.List.{List, [], _∷_, _++_, map, append-assoc}
 use lib.ListN.{length, take, drop}
 use lib.Dec.{eqb}
-use native.Mathlib.Omega.{arith}
-use borrow.Author.Tests.{eqb-true}
 use Rattle.standard.specs.Layout.{indexSectors, labelAt}
 use Rattle.standard.specs.Addresses.{ordinal}
 use Rattle.standard.specs.Records.{plain, salvage, Record, Item, rec, gap, end, start, readAll, listed, records}
@@ -18,26 +16,27 @@ use Rattle.standard.specs.declared.Geometry.{Geometry}
 use Rattle.standard.specs.declared.Address.{Address}
 use Rattle.standard.specs.declared.Checked.the-variants.{Passed}
 use Rattle.standard.specs.declared.Judged.the-variants.{Volume}
-use Rattle.promises.specs.AcceptedLaws.{true-not-false}
-use Rattle.promises.specs.OrdinalLaws.{ordinal-ge}
-use Rattle.promises.specs.ReadingLaws.{readAll-listed}
-use Rattle.promises.specs.SalvageLaws.{Clean, SalvageTheorem, salvage-theorem}
-use Rattle.promises.specs.SalvageViews.{salvage-records, salvage-gaps}
+use Rattle.promises.specs.Lists.{every-take, every-drop, every-map}
+use Rattle.promises.specs.AddressLaws.{Legal, ordinal-ge}
 use Rattle.promises.specs.Sectors.{sectorOf}
-use Rattle.promises.specs.Failing.{Failed, Spares, OfBlocks, recordsOf, gone, expected, Salvaged}
-use Rattle.promises.specs.VolumeLaws.{numbers-of}
-use Rattle.promises.specs.ExtentLaws.{All}
-use Rattle.promises.specs.FullLaws.{Legal, good-legal, sound}
-use Rattle.promises.specs.FailedLaws.{failed-volume, failed-file, failed-label, failed-open}
+use Rattle.promises.specs.VolumeNumbers.{numbers-of}
+use Rattle.promises.specs.ExtentAddresses.{good-legal}
+use Rattle.promises.specs.ExtentReads.{every-sector, sector-every}
+use Rattle.promises.specs.FullBlocks.{sound-file}
+use Rattle.promises.specs.ReadingLaws.{readAll-listed, Clean}
+use Rattle.promises.specs.SalvageLaws.{SalvageTheorem, salvage-theorem}
+use Rattle.promises.specs.SalvageViews.{salvage-gaps, salvage-records}
 use Rattle.promises.specs.Following.{following, heard, Fits}
-use Rattle.promises.specs.ReadingImage.{following-listed}
+use Rattle.promises.specs.FollowingLaws.{following-listed}
+use Rattle.promises.specs.Failing.{Failed, recordsOf, OfBlocks, Spares, gone, expected, Salvaged}
+use Rattle.promises.specs.FailedLaws.{failed-volume, failed-file, failed-label, failed-open}
 
 blocks-count : (g : Geometry) (image h : List ℕ) (n : ℕ) (xs : List Address) → length (blocksFrom g image h n xs) ≡ n
 unfolding blocksFrom
 blocks-count g image h zero xs = refl
 blocks-count g image h (suc n) xs = ap suc (blocks-count g image h n (drop (recordsToBlock g h) xs))
 
-file-count : (g : Geometry) (image h : List ℕ) → length (fileIn g image h .blocks) ≡ blockCount g image h
+pub file-count : (g : Geometry) (image h : List ℕ) → length (fileIn g image h .blocks) ≡ blockCount g image h
 unfolding fileIn
 file-count g image h = blocks-count g image h (blockCount g image h) (goodRecords g image h)
 
@@ -83,7 +82,7 @@ module _ (image image′ : List ℕ) (g : Geometry) (slot : ℕ) (hit : ℕ → 
   file-is : fileIn g image′ (labelAt g image′ slot) ≡ damaged (gone g hit image (labelAt g image slot)) (fileIn g image (labelAt g image slot))
   file-is =
       ap (fileIn g image′) (sym label-is)
-      ∙ failed-file g hit image image′ fail (labelAt g image slot) (sound image g slot j ok) (numbers-of image g j .size-low) s
+      ∙ failed-file g hit image image′ fail (labelAt g image slot) (sound-file image g slot j ok) (numbers-of image g j .size-low) s
 
   clean-all : Clean (readAll plain (fileIn g image (labelAt g image slot))) rs
   clean-all = readAll-listed plain (fileIn g image (labelAt g image slot)) ∙ clean
@@ -127,43 +126,24 @@ module _ (image image′ : List ℕ) (g : Geometry) (slot : ℕ) (hit : ℕ → 
       }
 
 -- where only sectors of the file's good records fail, nothing else is to be asked
-sector-behind : (g : Geometry) (xs : List Address) → All (Legal g) xs → (n : ℕ) → sectorOf g xs n ≡ true → indexSectors g ≤ n
-unfolding sectorOf
-sector-behind g [] k n e = absurd (true-not-false false e refl)
-sector-behind g (a ∷ xs) k n e = go (eqb (ordinal g a) n) refl e (λ e′. sector-behind g xs (k .1) n e′)
-  where
-    go : (t : Bool) → eqb (ordinal g a) n ≡ t → (t || sectorOf g xs n) ≡ true → (sectorOf g xs n ≡ true → indexSectors g ≤ n) → indexSectors g ≤ n
-    go true q d ih = omega (arith, eqb-true (ordinal g a) n q, ordinal-ge g a (k .0))
-    go false q d ih = ih d
-
-pub only-good : (image : List ℕ) (g : Geometry) (slot : ℕ) (hit : ℕ → Bool) → judged image ≡ Volume g → openRefusal g image slot ≡ Passed
+only-good : (image : List ℕ) (g : Geometry) (slot : ℕ) (hit : ℕ → Bool) → judged image ≡ Volume g → openRefusal g image slot ≡ Passed
     → ((n : ℕ) → hit n ≡ true → sectorOf g (goodRecords g image (labelAt g image slot)) n ≡ true) → Spares g hit image (labelAt g image slot)
 only-good image g slot hit j ok k =
     record {
-      index = λ n t. sector-behind g (goodRecords g image (labelAt g image slot)) (good-legal g image (labelAt g image slot) (sound image g slot j ok .in-range)) n (k n t);
+      index = λ n t.
+          let good = goodRecords g image (labelAt g image slot) in
+          sector-every (λ i. indexSectors g ≤ i) g good
+          (every-map (Legal g) (λ a. indexSectors g ≤ ordinal g a) (ordinal-ge g) good (good-legal g (labelAt g image slot) (sound-file image g slot j ok .in-range) image))
+          n (k n t);
       defects = λ n t e. k n t;
     }
 
 -- a sector of a part of a list is one of the list
-or-right : (a b : Bool) → b ≡ true → (a || b) ≡ true
-or-right true b h = refl
-or-right false b h = h
-
-or-mono : (a b c : Bool) → (b ≡ true → c ≡ true) → (a || b) ≡ true → (a || c) ≡ true
-or-mono true b c k h = refl
-or-mono false b c k h = k h
-
-sector-take : (g : Geometry) (m : ℕ) (xs : List Address) (n : ℕ) → sectorOf g (take m xs) n ≡ true → sectorOf g xs n ≡ true
-unfolding sectorOf
-sector-take g zero xs n e = absurd (true-not-false false e refl)
-sector-take g (suc m) [] n e = e
-sector-take g (suc m) (a ∷ xs) n e = or-mono (eqb (ordinal g a) n) (sectorOf g (take m xs) n) (sectorOf g xs n) (sector-take g m xs n) e
-
-sector-drop : (g : Geometry) (m : ℕ) (xs : List Address) (n : ℕ) → sectorOf g (drop m xs) n ≡ true → sectorOf g xs n ≡ true
-unfolding sectorOf
-sector-drop g zero xs n e = e
-sector-drop g (suc m) [] n e = e
-sector-drop g (suc m) (a ∷ xs) n e = or-right (eqb (ordinal g a) n) (sectorOf g xs n) (sector-drop g m xs n e)
+sector-part : (g : Geometry) (o m : ℕ) (xs : List Address) (n : ℕ) → sectorOf g (take m (drop o xs)) n ≡ true → sectorOf g xs n ≡ true
+sector-part g o m xs =
+    sector-every (λ i. sectorOf g xs i ≡ true) g (take m (drop o xs))
+    (every-take (λ a. sectorOf g xs (ordinal g a) ≡ true) m (drop o xs)
+    (every-drop (λ a. sectorOf g xs (ordinal g a) ≡ true) o xs (every-sector (λ i. sectorOf g xs i ≡ true) g xs (λ i e. e))))
 
 pub only-blocks : (image : List ℕ) (g : Geometry) (slot : ℕ) (hit : ℕ → Bool) → judged image ≡ Volume g → openRefusal g image slot ≡ Passed
     → OfBlocks g hit image (labelAt g image slot) → Spares g hit image (labelAt g image slot)
@@ -172,4 +152,4 @@ only-blocks image g slot hit j ok k =
     let h = labelAt g image slot in
     let good = goodRecords g image h in
     let m = recordsToBlock g h in
-    only-good image g slot hit j ok (λ n t. sector-drop g (k n t .0 * m) good n (sector-take g m (drop (k n t .0 * m) good) n (k n t .2)))
+    only-good image g slot hit j ok (λ n t. sector-part g (k n t .0 * m) m good n (k n t .2))

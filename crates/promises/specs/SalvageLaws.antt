@@ -1,27 +1,21 @@
 -- THE SALVAGE THEOREM.
 -- Assumes nothing.
-use mathlib.Core.Path.{_≡_, refl, sym, ap, _∙_, subst}
 use Prim.Native.Nat.{ℕ, zero, suc, _+_, _-_, _≤_, _<_}
+use mathlib.Core.Path.{_≡_, refl, sym, ap, _∙_, subst}
+use mathlib.Core.Bool.{Bool, true, false, cond, and-true, and-false}
+use mathlib.Core.List.{List, [], _∷_, _++_}
+use lib.ListN.{length}
 use native.Mathlib.Omega.{arith}
-use native.Mathlib.Nat.{not-suc-le-zero, le-of-suc-le-suc, le-refl, add-zero, add-suc, suc-add}
-use mathlib.Core.Bool.{Bool, true, false, cond, not, _&&_, _||_, and-true, and-false}
-use mathlib.Core.List.{List, [], _∷_, _++_, map, append-assoc}
-use lib.ListN.{length, drop, length-append}
-use lib.Dec.{T, leb, ltb, eqb, eqb→eq, eqb-refl}
-use Rattle.standard.specs.Pieces.{Block, lostBlock, held, Format, fixed, variable, spanned, Params, Kind, whole, first, middle, last}
-use Rattle.standard.specs.Pieces.{Token, part, bad, lost, walk, pieces, inBlock, inBlocks}
-use Rattle.standard.specs.Records.{Mode, plain, salvage, File, Record, State, fresh, marked, within, Move, deliver, carry, breach}
-use Rattle.standard.specs.Records.{over, meet, Item, rec, gap, end, no, refuse20, refuse21, refuse22, readAll}
+use native.Mathlib.Nat.{le-refl}
+use borrow.Author.Tests.{ne-eqb, eq-eqb}
+use Rattle.standard.specs.Pieces.{Block, lostBlock, held, Format, fixed, variable, spanned, Params, Kind, whole, first, middle, last, Token, part, bad, lost, pieces, inBlock, inBlocks}
+use Rattle.standard.specs.Records.{plain, salvage, File, Record, State, fresh, marked, within, Move, deliver, carry, breach, over, meet, Item, rec, gap, end, no, refuse20, refuse21, readAll, stateAfterGap, joinMove, joinEnd, join, listed}
 use Rattle.standard.specs.declared.Refusal.{Refusal}
-use Rattle.standard.specs.Records.{stateAfterGap, joinMove, joinEnd, joinLost, join, listed, records}
 use Rattle.standard.specs.Damage.{damage, damaged, intact, spared, endingIn, remains}
-use Rattle.promises.specs.PiecesLaws.{cond-elim}
-use Rattle.promises.specs.ReadingLaws.{readAll-listed}
-use Rattle.promises.specs.Tokens.{Every, every-append, At, From, Whole, Unspanned, pieces-at, blocks-from, blocks-whole}
-
--- the list of a reading that refused nothing
-abbrev pub Clean : List Item → List Record → Type 0
-Clean is rs = is ≡ map rec rs ++ (end ∷ [])
+use Rattle.promises.specs.Basics.{cond-elim}
+use Rattle.promises.specs.Lists.{Every}
+use Rattle.promises.specs.Tokens.{At, pieces-at, From, blocks-from, Whole, blocks-whole}
+use Rattle.promises.specs.ReadingLaws.{readAll-listed, Clean}
 
 unfoldable pub SalvageTheorem : Type 0
 SalvageTheorem = (gone : ℕ → Bool) (f : File) (rs : List Record)
@@ -45,24 +39,12 @@ clean-end fresh (r ∷ rs) h = let z : _≡_ {A = ℕ} 0 1 = cc in absurd (omega
 clean-end marked (r ∷ rs) h = let z : _≡_ {A = ℕ} 0 1 = cc in absurd (omega arith)
 clean-end (within acc f) (r ∷ rs) h = let z : _≡_ {A = ℕ} 0 1 = cc in absurd (omega arith)
 
-not-breach : (t : Bool) (mv : Move) (b o : ℕ) (more : State → List Item) (rs : List Record) → Clean (joinMove (cond t breach mv) b o more) rs → t ≡ false
-not-breach true mv b o more rs h = absurd (clean-no (refuse21 b o) rs h)
-not-breach false mv b o more rs h = refl
-
 -- ---- the expected list
-
-pub T-true : (b : Bool) → T b → b ≡ true
-T-true true t = refl
-T-true false t = absurd t
-
-eqb-no : (m n : ℕ) (t : Bool) → eqb m n ≡ t → (m ≡ n → ⊥) → t ≡ false
-eqb-no m n true e h = absurd (h (eqb→eq m n (rw e tt)))
-eqb-no m n false e h = refl
 
 module _ (gone : ℕ → Bool) where
   pub endingIn-skip : (b : ℕ) (r : Record) (rs : List Record) → (r .lastBlock ≡ b → ⊥) → endingIn gone b (r ∷ rs) ≡ endingIn gone b rs
   unfolding endingIn
-  endingIn-skip b r rs h = rw (eqb-no (r .lastBlock) b (eqb (r .lastBlock) b) refl h)
+  endingIn-skip b r rs h = rw (ne-eqb (r .lastBlock) b h)
 
   pub remains-skip : (n a : ℕ) (r : Record) (rs : List Record) → r .lastBlock < a → remains gone a n (r ∷ rs) ≡ remains gone a n rs
   unfolding remains
@@ -76,11 +58,11 @@ module _ (gone : ℕ → Bool) where
   due-spared : (b n : ℕ) (r : Record) (rs : List Record) → r .lastBlock ≡ b → spared gone r ≡ true → Due b n (r ∷ rs) ≡ rec r ∷ Due b n rs
   unfolding endingIn
   due-spared b n r rs e s =
-      rw (remains-skip n (suc b) r rs (omega arith), T-true (eqb (r .lastBlock) b) (rw e (eqb-refl b)), s)
+      rw (remains-skip n (suc b) r rs (omega arith), eq-eqb (r .lastBlock) b e, s)
 
   due-gone : (b n : ℕ) (r : Record) (rs : List Record) → r .lastBlock ≡ b → spared gone r ≡ false → Due b n (r ∷ rs) ≡ Due b n rs
   unfolding endingIn
-  due-gone b n r rs e s = rw (remains-skip n (suc b) r rs (omega arith), T-true (eqb (r .lastBlock) b) (rw e (eqb-refl b)), s)
+  due-gone b n r rs e s = rw (remains-skip n (suc b) r rs (omega arith), eq-eqb (r .lastBlock) b e, s)
 
   -- records of later blocks end in none before
   none-ending-move : (b b′ o : ℕ) (mv : Move) (more : State → List Item) (rs : List Record) → b < b′ → Clean (joinMove mv b′ o more) rs

@@ -1,23 +1,23 @@
 -- The salvage theorem seen twice more plainly: the records alone are the spared ones, in order; the gaps alone are the lost blocks, in order.
 -- Assumes nothing.
-use mathlib.Core.Path.{_≡_, refl, sym, ap, _∙_, subst}
 use Prim.Native.Nat.{ℕ, zero, suc, _+_, _-_, _≤_, _<_}
-use native.Mathlib.Omega.{arith}
-use native.Mathlib.Nat.{not-suc-le-zero, le-refl}
-use mathlib.Core.Bool.{Bool, true, false, cond, not, _&&_, and-false}
-use mathlib.Core.List.{List, [], _∷_, _++_, map, append-nil}
-use lib.ListN.{length}
-use lib.Dec.{T, eqb, eqb→eq, eqb-refl}
+use mathlib.Core.Path.{_≡_, refl, sym, ap, _∙_}
+use mathlib.Core.Bool.{Bool, true, false, cond, _&&_, and-false}
 use mathlib.Core.Logic.{_≢_}
-use borrow.Author.Tests.{eqb-false}
-use Rattle.standard.specs.Pieces.{Block, lostBlock, held, Params, Kind, whole, first, middle, last, Token, part, bad, lost, walk, pieces, inBlock, inBlocks}
-use Rattle.standard.specs.Records.{Mode, plain, salvage, File, Record, State, fresh, marked, within, Move, deliver, carry, breach, over, meet}
-use Rattle.standard.specs.Records.{Item, rec, gap, end, no, refuse20, refuse21, readAll, joinMove, join, listed}
+use mathlib.Core.List.{List, [], _∷_, _++_, append-nil}
+use lib.ListN.{length}
+use lib.Dec.{eqb}
+use native.Mathlib.Omega.{arith}
+use native.Mathlib.Nat.{le-refl}
+use borrow.Author.Tests.{eqb-false, eqb-true}
+use Rattle.standard.specs.Pieces.{Block, lostBlock, held, Params, Token, part, bad, lost, pieces, inBlock, inBlocks}
+use Rattle.standard.specs.Records.{plain, salvage, File, Record, State, fresh, marked, within, Move, deliver, carry, breach, meet, Item, rec, gap, end, no, refuse20, refuse21, readAll, joinMove, join, listed}
 use Rattle.standard.specs.Damage.{damaged, intact, spared, endingIn, remains, recordsIn, gapsIn, sparedOf, goneOf}
-use Rattle.promises.specs.PiecesLaws.{cond-elim}
-use Rattle.promises.specs.ReadingLaws.{readAll-listed}
-use Rattle.promises.specs.Tokens.{Every, From, At, pieces-at}
-use Rattle.promises.specs.SalvageLaws.{Clean, clean-no, clean-rec, clean-end, Begun, BegunBy, meet-begun, endingIn-skip, remains-skip, T-true, SalvageTheorem, salvage-theorem}
+use Rattle.promises.specs.Basics.{cond-elim}
+use Rattle.promises.specs.Lists.{Every}
+use Rattle.promises.specs.Tokens.{At, pieces-at}
+use Rattle.promises.specs.ReadingLaws.{readAll-listed, Clean}
+use Rattle.promises.specs.SalvageLaws.{SalvageTheorem, clean-no, clean-rec, clean-end, endingIn-skip, remains-skip, Begun, BegunBy, meet-begun, salvage-theorem}
 
 recordsIn-append : (is js : List Item) → recordsIn (is ++ js) ≡ recordsIn is ++ recordsIn js
 unfolding recordsIn
@@ -141,7 +141,7 @@ module _ (gone : ℕ → Bool) where
     where
       go : (t : Bool) → eqb (r .lastBlock) a ≡ t → (Asc top a rs → Shows (suc a) n rs) → Shows (suc a) n (r ∷ rs)
       go true q k =
-          let e : r .lastBlock ≡ a = eqb→eq (r .lastBlock) a (rw q tt) in
+          let e : r .lastBlock ≡ a = eqb-true (r .lastBlock) a q in
           rw (remains-skip gone n (suc a) r rs (omega arith), spared-gone r (v .2) (ap gone e ∙ g)) (k (rw e at (v .3)))
       go false q k = let ne : r .lastBlock ≢ a = eqb-false (r .lastBlock) a q in ih (r ∷ rs) (omega (arith, v .0), v .1, v .2, v .3)
 
@@ -154,10 +154,10 @@ module _ (gone : ℕ → Bool) where
       go : (t s : Bool) → eqb (r .lastBlock) a ≡ t → spared gone r ≡ s → (Asc top a rs → recordsIn (endingIn gone a rs ++ remains gone (suc a) n rs) ≡ sparedOf gone rs)
           → recordsIn (endingIn gone a (r ∷ rs) ++ remains gone (suc a) n (r ∷ rs)) ≡ sparedOf gone (r ∷ rs)
       go true true q u k =
-          let e : r .lastBlock ≡ a = eqb→eq (r .lastBlock) a (rw q tt) in
+          let e : r .lastBlock ≡ a = eqb-true (r .lastBlock) a q in
           rw (remains-skip gone n (suc a) r rs (omega arith), q, u) (ap (λ (l : List Record). r ∷ l) (k (rw e at (v .3))))
       go true false q u k =
-          let e : r .lastBlock ≡ a = eqb→eq (r .lastBlock) a (rw q tt) in
+          let e : r .lastBlock ≡ a = eqb-true (r .lastBlock) a q in
           rw (remains-skip gone n (suc a) r rs (omega arith), q, u) (k (rw e at (v .3)))
       go false s q u k =
           let ne : r .lastBlock ≢ a = eqb-false (r .lastBlock) a q in

@@ -2,11 +2,17 @@
 -- Assumes nothing.
 use Prim.Native.Nat.{ℕ, zero, suc, _+_, _-_, _*_, _<_, _≤_}
 use mathlib.Core.Path.{_≡_, refl, ap}
+use mathlib.Core.Bool.{true}
+use mathlib.Core.Logic.{inl, inr}
 use native.Mathlib.Omega.{arith}
 use borrow.Author.Tests.{lt-ltb, le-ltb}
 use Rattle.standard.specs.Layout.{ordinalAt, indexSectors, sectorCount, bodySize, kindOffset, bodyOffset, imageLength, slotOrdinal}
+use Rattle.standard.specs.Addresses.{legal, index, ordinal}
 use Rattle.standard.specs.declared.Geometry.{Geometry}
-use Rattle.promises.specs.AcceptedLaws.{either, lt-or-le}
+use Rattle.standard.specs.declared.Address.{Address}
+use Rattle.promises.specs.Basics.{either, lt-or-le}
+use Rattle.promises.specs.Splices.{Outside}
+use Rattle.promises.specs.AddressLaws.{ordinal-lt, ordinal-ge, ordinal-inj}
 
 module _ (g : Geometry) where
   pub offset-index : (n : ℕ) → n < indexSectors g → kindOffset g n ≡ n * 129
@@ -68,6 +74,32 @@ module _ (g : Geometry) where
   pub sector-in-image : (n : ℕ) → n < sectorCount g → bodyOffset g n + bodySize g n ≤ imageLength g
   unfolding bodyOffset
   sector-in-image n l = omega (arith, sectors-apart n (sectorCount g) l, last-sector)
+
+  -- an offset of one sector is outside every other
+  pub sector-outside : (n k i : ℕ) → (n ≡ k → ⊥) → kindOffset g n ≤ i → i < kindOffset g n + (1 + bodySize g n)
+      → Outside i (kindOffset g k) (bodySize g k + 1)
+  sector-outside n k i ne lo hi =
+      either (lt-or-le n k)
+      (λ (l : n < k). inl (omega (arith, sectors-apart n k l)))
+      (λ (r : k ≤ n).
+      either (lt-or-le k n)
+      (λ (l : k < n). inr (omega (arith, sectors-apart k n l)))
+      (λ (q : n ≤ k). absurd (ne (omega arith))))
+
+  -- the sector of a data address: P bytes behind its kind, behind the index cylinder, inside the image; and of two addresses two sectors
+  module _ (a : Address) (h : legal g a ≡ true) where
+    pub address-size : bodySize g (ordinal g a) ≡ g .P
+    address-size = size-data (ordinal g a) (ordinal-ge g a h)
+
+    pub address-inside : ordinal g a < sectorCount g
+    unfolding sectorCount
+    address-inside = omega (arith, ordinal-lt g a h)
+
+    pub address-room : bodyOffset g (ordinal g a) + g .P ≤ imageLength g
+    address-room = omega (arith, sector-in-image (ordinal g a) address-inside, address-size)
+
+    pub addresses-apart : (b : Address) → legal g b ≡ true → index g a < index g b → (ordinal g a ≡ ordinal g b → ⊥)
+    addresses-apart b hb l e = omega (arith, ap (index g) (ordinal-inj g a b h hb e))
 
   -- the slots: "08 to I are label slots 1 to I-7. On two-sided volumes, side 1 sectors 01 to I continue the slots."
   pub slot-side-0 : (slot : ℕ) → slotOrdinal slot ≡ ordinalAt g 0 0 (slot + 7)

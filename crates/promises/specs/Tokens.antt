@@ -1,25 +1,16 @@
 -- A property of every token of a file, from what `look` says of every piece.
 -- Assumes nothing.
-use mathlib.Core.Path.{_≡_, refl, sym, ap, _∙_, subst}
-use Prim.Native.Nat.{ℕ, zero, suc, _+_, _-_, _≤_, _<_}
-use native.Mathlib.Omega.{arith}
-use native.Mathlib.Nat.{le-refl}
-use mathlib.Core.Bool.{Bool, true, false, cond, not, _&&_, _||_}
+use Prim.Native.Nat.{ℕ, zero, suc, _+_, _≤_}
+use mathlib.Core.Path.{_≡_, refl}
+use mathlib.Core.Bool.{Bool, _&&_}
 use mathlib.Core.Option.{Option, none, some}
-use mathlib.Core.List.{List, [], _∷_, _++_}
-use lib.ListN.{length, getD, take, drop}
-use lib.Dec.{T, leb}
-use Rattle.standard.specs.Pieces.{Block, lostBlock, held, Format, fixed, variable, spanned, Params, Kind, whole, first, middle, last, Piece, blank, broken, piece}
-use Rattle.standard.specs.Pieces.{isFill, mustFill, four, sizedV, lookF, onlyFillV, lookV, lookIn, look, Token, part, bad, lost, afterPart, tokensAt, walk, pieces, inBlock, inBlocks}
-use Rattle.promises.specs.PiecesLaws.{cond-elim}
-
-abbrev pub Every : (Token → Type 0) → List Token → Type 0
-Every Q [] = Unit {0}
-Every Q (t ∷ ts) = Q t × Every Q ts
-
-pub every-append : (Q : Token → Type 0) (ts us : List Token) → Every Q ts → Every Q us → Every Q (ts ++ us)
-every-append Q [] us h k = k
-every-append Q (t ∷ ts) us h k = (h .0, every-append Q ts us (h .1) k)
+use mathlib.Core.List.{List, [], _∷_}
+use lib.ListN.{length, drop}
+use lib.Dec.{leb}
+use native.Mathlib.Omega.{arith}
+use Rattle.standard.specs.Pieces.{Block, lostBlock, held, Format, fixed, variable, spanned, Params, Kind, whole, first, middle, last, Piece, blank, broken, piece, isFill, four, sizedV, lookF, onlyFillV, lookV, lookIn, look, Token, part, bad, lost, afterPart, tokensAt, walk, pieces, inBlock, inBlocks}
+use Rattle.promises.specs.Basics.{cond-elim}
+use Rattle.promises.specs.Lists.{Every, every-append}
 
 abbrev pub OnPiece : (Token → Type 0) → ℕ → ℕ → Piece → Type 0
 OnPiece Q b o blank = Unit {0}
@@ -27,7 +18,7 @@ OnPiece Q b o broken = Unit {0}
 OnPiece Q b o (piece k body s) = Q (part k body b o (o + s))
 
 module _ (Q : Token → Type 0) (b : ℕ) (hb : (o : ℕ) → Q (bad b o)) where
-  afterPart-every : (k : Kind) (o : ℕ) (rest : List ℕ) (more : List Token) → Every Q more → Every Q (afterPart k b o rest more)
+  pub afterPart-every : (k : Kind) (o : ℕ) (rest : List ℕ) (more : List Token) → Every Q more → Every Q (afterPart k b o rest more)
   afterPart-every whole o rest more h = h
   afterPart-every first o rest more h = cond-elim (Every Q) (isFill rest) (λ _. tt) (λ _. (hb o, tt))
   afterPart-every middle o rest more h = cond-elim (Every Q) (isFill rest) (λ _. tt) (λ _. (hb o, tt))
@@ -39,7 +30,7 @@ module _ (Q : Token → Type 0) (b : ℕ) (hb : (o : ℕ) → Q (bad b o)) where
   tokensAt-every o rest f broken h k = (hb o, tt)
   tokensAt-every o rest f (piece kd body s) h k = (h, afterPart-every kd (o + s) (drop s rest) (f (o + s) (drop s rest)) (k (o + s) (drop s rest)))
 
-  pub walk-every : (p : Params) → ((o : ℕ) (rest : List ℕ) → OnPiece Q b o (look p o rest)) → (n o : ℕ) (rest : List ℕ) → Every Q (walk n p b o rest)
+  walk-every : (p : Params) → ((o : ℕ) (rest : List ℕ) → OnPiece Q b o (look p o rest)) → (n o : ℕ) (rest : List ℕ) → Every Q (walk n p b o rest)
   unfolding walk
   walk-every p h zero o rest = tt
   walk-every p h (suc n) o rest = tokensAt-every o rest _ (look p o rest) (h o rest) (λ o′ r. walk-every p h n o′ r)

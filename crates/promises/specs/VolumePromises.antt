@@ -1,73 +1,59 @@
 -- Demand 2, the volume: of an accepted volume, every label's extent is in range, and no two labels' extents share a physical record.
 -- Assumes nothing.
-use Prim.Native.Nat.{ℕ, zero, suc, _+_, _-_, _<_, _≤_}
-use mathlib.Core.Path.{_≡_, sym, ap, subst}
-use mathlib.Core.Bool.{true, not}
-use mathlib.Core.List.{List, List·Memᴰ, List·Memᴰ·not-nil, List·Memᴰ·cases-cons}
+use Prim.Native.Nat.{ℕ, _+_, _<_, _≤_}
+use mathlib.Core.Path.{_≡_, subst}
+use mathlib.Core.Bool.{true}
+use mathlib.Core.List.{List, List·Memᴰ}
 use lib.ListN.{length}
-use lib.Dec.{eqb}
 use native.Mathlib.Omega.{arith}
-use borrow.Author.Tests.{le-leb, eqb-true, not-false}
-use Rattle.standard.specs.Layout.{indexSectors, sectorCount, bodyOffset, imageLength, labelAt}
-use Rattle.standard.specs.Addresses.{legal, index, addressCount, stepped, ordinal}
+use Rattle.standard.specs.Layout.{indexSectors, sectorCount, bodyOffset, labelAt}
+use Rattle.standard.specs.Addresses.{legal, index, ordinal}
 use Rattle.standard.specs.Labels.{startOf, endOf}
 use Rattle.standard.specs.Slots.{hasLabel}
 use Rattle.standard.specs.Free.{inExtent}
-use Rattle.standard.specs.Files.{addressesFrom, extentSize, extent, fileIn, fileAt}
+use Rattle.standard.specs.Files.{extent, fileIn, fileAt}
 use Rattle.standard.specs.Judgement.{judged}
 use Rattle.standard.specs.declared.Geometry.{Geometry}
 use Rattle.standard.specs.declared.Address.{Address}
 use Rattle.standard.specs.declared.Judged.the-variants.{Volume}
-use Rattle.promises.specs.AcceptedLaws.{either, not-given, accepted, InRange, label-in-range, labels-apart}
-use Rattle.promises.specs.Tiling.{size-data, sector-in-image}
-use Rattle.promises.specs.OrdinalLaws.{index-lt, step-index, step-legal, ordinal-lt, ordinal-ge, ordinal-inj}
+use Rattle.promises.specs.Lists.{every-member}
+use Rattle.promises.specs.AddressLaws.{ordinal-ge, ordinal-inj, skips-first, skips-second}
+use Rattle.promises.specs.Tiling.{address-inside, address-room}
+use Rattle.promises.specs.Judging.{accepted}
+use Rattle.promises.specs.AcceptedLaws.{image-length, InRange, label-in-range, bounds-extent, labels-apart}
+use Rattle.promises.specs.ExtentAddresses.{Between, rising-every, extent-rising}
+use Rattle.promises.specs.VolumeNumbers.{defects-in-order}
+use Rattle.standard.specs.Defects.{physical}
 
 -- the addresses of an extent are legal, and their numbers are those from its start to its end
-walked : (g : Geometry) (n : ℕ) (a b : Address) → (0 < n → legal g a ≡ true) → index g a + n ≤ addressCount g → List·Memᴰ b (addressesFrom g n a)
-    → (legal g b ≡ true) × (index g a ≤ index g b) × (index g b < index g a + n)
-unfolding addressesFrom
-walked g zero a b l h m = absurd (List·Memᴰ·not-nil m)
-walked g (suc n) a b l h m =
-    let la = l (omega arith) in
-    let si = step-index g a la in
-    either (List·Memᴰ·cases-cons m)
-    (λ (e : b ≡ a). (subst (λ (x : Address). legal g x ≡ true) (sym e) la, omega (arith, ap (index g) e), omega (arith, ap (index g) e)))
-    (λ (t : List·Memᴰ b (addressesFrom g n (stepped g a))).
-    let r = walked g n (stepped g a) b (λ (k : 0 < n). step-legal g a la (omega arith)) (omega (arith, si)) t in
-    (r .0, omega (arith, r, si), omega (arith, r, si)))
-
 pub in-extent : (g : Geometry) (h : List ℕ) (b : Address) → InRange g h → List·Memᴰ b (extent g h) → (legal g b ≡ true) × (inExtent g h (index g b) ≡ true)
-unfolding extent extentSize inExtent
 in-extent g h b r m =
-    let le = index-lt g (endOf h) (r .end-legal) in
-    let w = walked g (suc (index g (endOf h)) - index g (startOf h)) (startOf h) b (λ (k : 0 < suc (index g (endOf h)) - index g (startOf h)). r .start-legal)
-    (omega (arith, r, le)) m in
-    (w .0, simp (le-leb (index g (startOf h)) (index g b) (w .1), le-leb (index g b) (index g (endOf h)) (omega (arith, w, r))))
+    let lo = index g (startOf h) in
+    let hi = index g (endOf h) in
+    let w = every-member (Between g lo hi) (extent g h) b (rising-every g lo hi (extent g h) (extent-rising g h r)) m in
+    (w .0, bounds-extent g h (index g b) (w .1) (w .2))
 
 -- EVERY LABEL'S EXTENT IS IN RANGE: its start and end are addresses of the volume and in order, and so is each address of it; each is in a sector of the
--- image, behind the index cylinder.
+-- image, behind the index cylinder, and on no defective cylinder.
 pub record RecordInRange (image : List ℕ) (g : Geometry) (a : Address) : Type 0 where
   pub address : legal g a ≡ true
   pub behind-index : indexSectors g ≤ ordinal g a
   pub sector : ordinal g a < sectorCount g
   pub bytes : bodyOffset g (ordinal g a) + g .P ≤ length image
-
-pub image-length : (image : List ℕ) (g : Geometry) → judged image ≡ Volume g → length image ≡ imageLength g
-image-length image g j =
-    let n = not-given (not (eqb (length image) (imageLength g))) _ (accepted image g j .size) in
-    eqb-true (length image) (imageLength g) (not-false (eqb (length image) (imageLength g)) n)
+  pub not-first-defect : 0 < g .d1 → physical g (a .cylinder) ≡ g .d1 → ⊥
+  pub not-second-defect : 0 < g .d2 → physical g (a .cylinder) ≡ g .d2 → ⊥
 
 pub extent-in-range : (image : List ℕ) (g : Geometry) (slot : ℕ) (a : Address) → judged image ≡ Volume g → hasLabel g image slot ≡ true
     → List·Memᴰ a (extent g (labelAt g image slot)) → RecordInRange image g a
-unfolding sectorCount
 extent-in-range image g slot a j h m =
     let l = in-extent g (labelAt g image slot) a (label-in-range image g slot j h) m .0 in
-    let n : ordinal g a < sectorCount g = omega (arith, ordinal-lt g a l) in
     record {
       address = l;
       behind-index = ordinal-ge g a l;
-      sector = n;
-      bytes = omega (arith, sector-in-image g (ordinal g a) n, size-data g (ordinal g a) (ordinal-ge g a l), image-length image g j);
+      sector = address-inside g a l;
+      bytes = omega (arith, address-room g a l, image-length image g j);
+      not-first-defect = skips-first g (a .cylinder) (defects-in-order image g j);
+      not-second-defect = skips-second g (a .cylinder);
     }
 
 -- NO TWO LABELS' EXTENTS SHARE A PHYSICAL RECORD: where records of two extents are in one sector, the two labels are one.

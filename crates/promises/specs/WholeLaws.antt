@@ -1,13 +1,12 @@
 -- A file that is heard whole: what a caller has heard is the file's list.
 -- Assumes nothing.
-use Prim.Native.Nat.{ℕ, zero, suc, _+_, _-_, _≤_}
-use mathlib.Core.Path.{_≡_, refl, sym, ap, _∙_}
+use Prim.Native.Nat.{ℕ, zero, suc}
+use mathlib.Core.Path.{subst, _≡_, refl, sym, ap, _∙_}
 use mathlib.Core.Bool.{Bool, true, false}
 use mathlib.Core.List.{List, [], _∷_, _++_, map}
 use lib.ListN.{length, take}
 use lib.Dec.{ltb}
 use native.Mathlib.Omega.{arith}
-use borrow.Author.Tests.{ltb-false}
 use Rattle.standard.specs.Refusals.{refuse}
 use Rattle.standard.specs.Layout.{labelAt}
 use Rattle.standard.specs.Records.{Mode, plain, Record, Item, rec, gap, end, no, start, records}
@@ -20,21 +19,11 @@ use Rattle.standard.specs.declared.Place.{Place}
 use Rattle.standard.specs.declared.Checked.{Checked}
 use Rattle.standard.specs.declared.Checked.the-variants.{Passed, Stopped}
 use Rattle.standard.specs.declared.Judged.the-variants.{Volume}
-use Rattle.promises.specs.SalvageLaws.{Clean}
-use Rattle.promises.specs.Following.{Heard, told, hole, done, refused, onward, following, heard, Fits, tooLong, heardIn}
-use Rattle.promises.specs.Failing.{ReadsWhole}
+use Rattle.promises.specs.ReadingLaws.{Reads, reads-cons}
 use Rattle.promises.specs.ListedLaws.{Closed, listed-closed}
-use Rattle.promises.specs.ReadingImage.{following-any}
-
-abbrev pub bodyOf : Record → List ℕ
-bodyOf r = r .body
-
--- the records of a list that is heard as bodies and End
-pub record Found (room : ℕ) (is : List Item) (bodies : List (List ℕ)) : Type 0 where
-  pub rs : List Record
-  pub same : map bodyOf rs ≡ bodies
-  pub clean : Clean is rs
-  pub fits : Fits room (map rec rs)
+use Rattle.promises.specs.Following.{Heard, told, hole, done, refused, onward, following, tooLong, heardIn}
+use Rattle.promises.specs.FollowingLaws.{following-any}
+use Rattle.promises.specs.Failing.{ReadsWhole}
 
 abbrev Whole : List Heard → List (List ℕ) → Type 0
 Whole hs bodies = hs ≡ map told bodies ++ (done ∷ [])
@@ -44,7 +33,7 @@ none-whole : (bodies : List (List ℕ)) → Whole [] bodies → ⊥
 none-whole [] h = let z : _≡_ {A = ℕ} 0 1 = cc in omega arith
 none-whole (x ∷ xs) h = let z : _≡_ {A = ℕ} 0 1 = cc in omega arith
 
-pub refused-whole : (x : Refusal) (hs : List Heard) (bodies : List (List ℕ)) → Whole (refused x ∷ hs) bodies → ⊥
+refused-whole : (x : Refusal) (hs : List Heard) (bodies : List (List ℕ)) → Whole (refused x ∷ hs) bodies → ⊥
 refused-whole x hs [] h = let z : _≡_ {A = ℕ} 0 1 = cc in omega arith
 refused-whole x hs (y ∷ ys) h = let z : _≡_ {A = ℕ} 0 1 = cc in omega arith
 
@@ -61,37 +50,28 @@ done-none hs x xs h = let z : _≡_ {A = ℕ} 0 1 = cc in omega arith
 told-first : (body x : List ℕ) (hs : List Heard) (xs : List (List ℕ)) → Whole (told body ∷ hs) (x ∷ xs) → (body ≡ x) × Whole hs xs
 told-first body x hs xs h = ((cc), (cc))
 
-cons-found : (room : ℕ) (r : Record) (is : List Item) (x : List ℕ) (xs : List (List ℕ)) → length (r .body) ≤ room → r .body ≡ x → Found room is xs
-    → Found room (rec r ∷ is) (x ∷ xs)
-cons-found room r is x xs l e f =
-    record {
-      rs = r ∷ f .rs;
-      same = rw (e, f .same);
-      clean = ap (λ (ms : List Item). rec r ∷ ms) (f .clean);
-      fits = (l, f .fits);
-    }
-
-rec-found : (room : ℕ) (t : Bool) (r : Record) (is : List Item) (hs : List Heard) → ltb room (length (r .body)) ≡ t → (bodies : List (List ℕ))
-    → Whole (tooLong t (r .body) hs) bodies → ((xs : List (List ℕ)) → Whole hs xs → Found room is xs) → Found room (rec r ∷ is) bodies
-rec-found room true r is hs e bodies h ih = absurd (refused-whole (refuse 23 (length (r .body))) [] bodies h)
-rec-found room false r is hs e [] h ih = absurd (told-none (r .body) hs h)
-rec-found room false r is hs e (x ∷ xs) h ih =
+rec-whole : (room : ℕ) (t : Bool) (r : Record) (is : List Item) (hs : List Heard) (bodies : List (List ℕ)) → Whole (tooLong t (r .body) hs) bodies
+    → ((xs : List (List ℕ)) → Whole hs xs → Reads is xs) → Reads (rec r ∷ is) bodies
+rec-whole room true r is hs bodies h ih = absurd (refused-whole (refuse 23 (length (r .body))) [] bodies h)
+rec-whole room false r is hs [] h ih = absurd (told-none (r .body) hs h)
+rec-whole room false r is hs (x ∷ xs) h ih =
     let (q, w) = told-first (r .body) x hs xs h in
-    cons-found room r is x xs (ltb-false room (length (r .body)) e) q (ih xs w)
+    subst (λ (y : List ℕ). Reads (rec r ∷ is) (y ∷ xs)) q (reads-cons r (ih xs w))
 
-end-found : (room : ℕ) (is : List Item) (hs : List Heard) → is ≡ [] → (bodies : List (List ℕ)) → Whole (done ∷ hs) bodies → Found room (end ∷ is) bodies
-end-found room is hs e [] h = record { rs = []; same = refl; clean = ap (λ (ms : List Item). end ∷ ms) e; fits = tt }
-end-found room is hs e (x ∷ xs) h = absurd (done-none hs x xs h)
+end-whole : (is : List Item) (hs : List Heard) → is ≡ [] → (bodies : List (List ℕ)) → Whole (done ∷ hs) bodies → Reads (end ∷ is) bodies
+end-whole is hs e [] h = record { rs = []; same = refl; clean = ap (λ (ms : List Item). end ∷ ms) e }
+end-whole is hs e (x ∷ xs) h = absurd (done-none hs x xs h)
 
-found : (room n : ℕ) (is : List Item) → Closed is → (bodies : List (List ℕ)) → Whole (heardIn room (take n is)) bodies → Found room is bodies
+-- a list that is heard as bodies and End has these bodies and End
+heard-whole : (room n : ℕ) (is : List Item) → Closed is → (bodies : List (List ℕ)) → Whole (heardIn room (take n is)) bodies → Reads is bodies
 unfolding heardIn
-found room zero is c bodies h = absurd (none-whole bodies h)
-found room (suc n) [] c bodies h = absurd c
-found room (suc n) (rec r ∷ is) c bodies h =
-    rec-found room (ltb room (length (r .body))) r is (heardIn room (take n is)) refl bodies h (λ xs w. found room n is c xs w)
-found room (suc n) (gap b ∷ is) c bodies h = absurd (hole-whole b _ bodies h)
-found room (suc n) (end ∷ is) c bodies h = end-found room is (heardIn room (take n is)) c bodies h
-found room (suc n) (no x ∷ is) c bodies h = absurd (refused-whole x _ bodies h)
+heard-whole room zero is c bodies h = absurd (none-whole bodies h)
+heard-whole room (suc n) [] c bodies h = absurd c
+heard-whole room (suc n) (rec r ∷ is) c bodies h =
+    rec-whole room (ltb room (length (r .body))) r is (heardIn room (take n is)) bodies h (λ xs w. heard-whole room n is c xs w)
+heard-whole room (suc n) (gap b ∷ is) c bodies h = absurd (hole-whole b _ bodies h)
+heard-whole room (suc n) (end ∷ is) c bodies h = end-whole is (heardIn room (take n is)) c bodies h
+heard-whole room (suc n) (no x ∷ is) c bodies h = absurd (refused-whole x _ bodies h)
 
 module _ (image : List ℕ) (g : Geometry) (slot : ℕ) (bodies : List (List ℕ)) (j : judged image ≡ Volume g) (w : ReadsWhole image slot bodies) where
   -- a file that is heard whole may be opened
@@ -116,8 +96,8 @@ module _ (image : List ℕ) (g : Geometry) (slot : ℕ) (bodies : List (List ℕ
   pub opens-whole : openRefusal g image slot ≡ Passed
   opens-whole = whole-opens (w .readings) (w .out) (w .hears)
 
-  pub found-whole : Found (length (w .out)) (records (fileIn g image (labelAt g image slot))) bodies
-  found-whole =
+  pub reads-whole : Reads (records (fileIn g image (labelAt g image slot))) bodies
+  reads-whole =
       let f = fileIn g image (labelAt g image slot) in
-      found (length (w .out)) (w .readings) (records f) (listed-closed plain f) bodies
+      heard-whole (length (w .out)) (w .readings) (records f) (listed-closed plain f) bodies
       (sym (following-any image g slot j opens-whole plain (w .readings) (w .out)) ∙ w .hears)

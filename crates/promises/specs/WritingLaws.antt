@@ -1,39 +1,24 @@
--- THE THIRD THEOREM: what is written is read back.
+-- THE WRITING THEOREM: records packed into blocks are read back.
 -- Assumes nothing.
-use mathlib.Core.Path.{_≡_, refl, sym, ap, _∙_, subst}
 use Prim.Native.Nat.{ℕ, zero, suc, _+_, _-_, _*_, _/_, _%_, _≤_, _<_}
-use native.Mathlib.Omega.{arith}
-use native.Mathlib.Nat.{not-suc-le-zero, le-of-suc-le-suc, le-refl, add-zero}
-use mathlib.Core.Bool.{Bool, true, false, cond, not, _&&_, _||_, or-true}
-use mathlib.Core.Option.{Option, none, some}
+use mathlib.Core.Path.{_≡_, refl, sym, ap, _∙_, subst}
+use mathlib.Core.Bool.{Bool, true, false, not, _&&_, or-true, and-false}
+use mathlib.Core.Option.{some}
 use mathlib.Core.List.{List, [], _∷_, _++_, map, append-assoc, append-nil}
-use lib.ListN.{length, getD, take, drop, replicate, length-append, length-take, length-drop, take-append-drop}
-use lib.Seq.{take-append-seam, drop-append-seam, take-at, drop-at, length-take-le}
-use lib.Dec.{T, leb, ltb, eqb, leb→le, le→leb, eqb→eq, nleb→lt, ltb→lt, lt→ltb}
-use Rattle.standard.specs.Pieces.{Block, lostBlock, held, Format, fixed, variable, spanned, Params, Kind, whole, first, middle, last, Piece, blank, broken, piece}
-use Rattle.standard.specs.Pieces.{isFill, mustFill, number4, four, kindOf, sizedV, sizedS, lookF, onlyFillV, onlyFillS, lookV, lookS, lookIn, look, Token, part, bad, lost, afterPart, tokensAt, walk, pieces, inBlock, inBlocks}
-use Rattle.standard.specs.Records.{Mode, plain, salvage, File, Record, State, fresh, marked, within, Move, deliver, carry, breach}
-use Rattle.standard.specs.Records.{overIn, over, meet, Item, rec, gap, end, no, readAll, joinMove, join, listed}
-use Rattle.standard.specs.Packing.{Laid, then, thenNext, fill, kindByte, recordV, segment, placeIf, lay, layOne, segmentKind, spreadIf, spread, least, startIf, layS, Packing, laidOut, packIn, pack, fileOf}
-use Rattle.promises.specs.PiecesLaws.{cond-elim, pieces-eq, look-nil}
-use Rattle.promises.specs.ReadingLaws.{readAll-listed}
-use Rattle.promises.specs.SalvageLaws.{Clean}
+use lib.ListN.{length, take, drop, length-append, length-drop, take-append-drop}
+use lib.Seq.{drop-append-seam, take-at, drop-at, length-take-le}
+use lib.Dec.{leb, ltb, eqb}
+use native.Mathlib.Omega.{arith}
+use native.Mathlib.Nat.{not-suc-le-zero, le-refl}
+use borrow.Author.Tests.{le-leb, lt-leb, leb-true, leb-false, ne-eqb, lt-ltb, ltb-true}
+use Rattle.standard.specs.Pieces.{held, fixed, variable, spanned, Params, Kind, whole, first, middle, last, blank, piece, isFill, number4, four, kindOf, lookF, lookV, lookS, look, Token, part, afterPart, pieces, inBlock, inBlocks}
+use Rattle.standard.specs.Records.{plain, State, fresh, within, over, meet, Item, readAll, joinMove, join, listed}
+use Rattle.standard.specs.Packing.{Laid, then, thenNext, fill, kindByte, recordV, segment, lay, layOne, segmentKind, spread, least, layS, pack, fileOf}
 use Rattle.standard.specs.Characters.{digitValue, padded}
+use Rattle.promises.specs.Lists.{Every}
+use Rattle.promises.specs.PiecesLaws.{look-nil, pieces-eq}
+use Rattle.promises.specs.ReadingLaws.{readAll-listed, Reads, reads-cons}
 use Rattle.promises.specs.Digits.{digit-is}
-
-leb-true : (m n : ℕ) → m ≤ n → leb m n ≡ true
-leb-true m n h = go (leb m n) (le→leb m n h)
-  where
-    go : (b : Bool) → T b → b ≡ true
-    go true t = refl
-    go false t = absurd t
-
-leb-false : (m n : ℕ) → n < m → leb m n ≡ false
-leb-false m n h = go (leb m n) refl
-  where
-    go : (b : Bool) → leb m n ≡ b → b ≡ false
-    go true e = let z : m ≤ n = leb→le m n (rw e tt) in absurd (omega arith)
-    go false e = refl
 
 -- ---- four digits, there and back
 
@@ -67,12 +52,12 @@ lookS-segment k body more h =
     let n : ℕ = 5 + length body in
     let l : length (body ++ more) ≡ length body + length more = length-append body more in
     rw (
-      leb-false (suc (suc (suc (suc (suc (suc (length (body ++ more)))))))) 5 (omega arith),
+      lt-leb (suc (suc (suc (suc (suc (suc (length (body ++ more)))))))) 5 (omega arith),
       kindByte-pos k,
       kindOf-byte k,
       four-digits n (body ++ more) h,
-      leb-true 5 n (omega arith),
-      leb-true n (suc (suc (suc (suc (suc (length (body ++ more))))))) (omega arith),
+      le-leb 5 n (omega arith),
+      le-leb n (suc (suc (suc (suc (suc (length (body ++ more))))))) (omega arith),
       take-at body more (n - 5) (omega arith),
     )
 
@@ -82,19 +67,6 @@ lookS-fill zero = refl
 lookS-fill (suc n) = rw (or-true, fill-is n)
 
 -- ---- reading what was laid
-
-pub bodies : List Record → List (List ℕ)
-bodies rs = map (λ (r : Record). r .body) rs
-
--- the reading gives these bodies, and then End
-pub record Reads (is : List Item) (xs : List (List ℕ)) : Type 0 where
-  pub rs : List Record
-  pub same : bodies rs ≡ xs
-  pub clean : Clean is rs
-
-reads-cons : {is : List Item} {xs : List (List ℕ)} (r : Record) → Reads is xs → Reads (rec r ∷ is) (r .body ∷ xs)
-unfolding bodies
-reads-cons r h = record { rs = r ∷ h .rs; same = ap (λ (ys : List (List ℕ)). r .body ∷ ys) (h .same); clean = ap (λ (is : List Item). rec r ∷ is) (h .clean) }
 
 laidTokens : Params → ℕ → ℕ → Laid → List Token
 laidTokens p b o l = pieces p b o (l .here) ++ inBlocks p (suc b) (map held (l .later))
@@ -117,14 +89,12 @@ fill-pieces : (R : ℕ) (bl : Bool) (b o n : ℕ) → pieces (S R bl) b o (fill 
 unfolding look
 fill-pieces R bl b o n = pieces-eq (S R bl) b o (fill n) ∙ rw (lookS-fill n)
 
-and-mono : (x a c : Bool) → (T a → T c) → (x && c) ≡ false → (x && a) ≡ false
-and-mono false a c h e = refl
-and-mono true false c h e = refl
-and-mono true true true h e = e
-and-mono true true false h e = absurd (h tt)
-
 over-mono : (R : ℕ) (bl : Bool) (m n : ℕ) → m ≤ n → over (S R bl) n ≡ false → over (S R bl) m ≡ false
-over-mono R bl m n h e = and-mono (ltb 0 R) (ltb R m) (ltb R n) (λ t. let l : R < m = ltb→lt R m t in lt→ltb R n (omega arith)) e
+over-mono R bl m n h = go (ltb 0 R) (ltb R m) refl
+  where
+    go : (x y : Bool) → ltb R m ≡ y → (x && ltb R n) ≡ false → (x && y) ≡ false
+    go x false e k = and-false x
+    go x true e k = rw (lt-ltb R n (omega (arith, ltb-true R m e))) at k
 
 -- a reader that a writer's piece finds: between records, or inside one of which it has `acc`
 data Stands : Bool → State → List ℕ → Type 0 where
@@ -188,11 +158,11 @@ module _ (R : ℕ) (bl : Bool) (B : ℕ) (small : B < 10000) (more : ℕ → Lai
       → ReadsFrom R bl b o (spread (suc n) B begun room body more) st ((acc ++ body) ∷ xs)
   unfolding Spreads spread
   spread-case n ih true begun room body e hn hl hr b o st acc s v =
-      let fits : 5 + length body ≤ room = leb→le (5 + length body) room (rw e tt) in
+      let fits : 5 + length body ≤ room = leb-true (5 + length body) room e in
       rw e (end-reads R bl b o (more (room - (5 + length body))) begun body xs st acc s (omega arith) v
       (λ o′. k b o′ (room - (5 + length body)) (omega arith)))
   spread-case n ih false begun room body e hn hl hr b o st acc s v =
-      let over-room : room < 5 + length body = nleb→lt (5 + length body) room (rw e tt) in
+      let over-room : room < 5 + length body = leb-false (5 + length body) room e in
       let five : 5 ≤ least body = least-five body in
       let six : least body ≡ 6 = least-of body (omega arith) in
       let chunk : List ℕ = take (room - 5) body in
@@ -218,11 +188,10 @@ module _ (R : ℕ) (bl : Bool) (B : ℕ) (small : B < 10000) (more : ℕ → Lai
 
 -- "S length over R (R not 0000), or not 0 with B = 5"
 abbrev pub FitS : ℕ → Bool → ℕ → List (List ℕ) → Type 0
-FitS R bl B [] = Unit {0}
-FitS R bl B (x ∷ xs) = (over (S R bl) (length x) ≡ false) × (least x ≤ B) × FitS R bl B xs
+FitS R bl B xs = Every (λ x. (over (S R bl) (length x) ≡ false) × (least x ≤ B)) xs
 
 none-left : (p : Params) (b o room : ℕ) → Reads (join plain p (laidTokens p b o (record { here = []; later = []; unused = room })) fresh) []
-unfolding laidTokens inBlocks join bodies
+unfolding laidTokens inBlocks join
 none-left p b o room = rw (pieces-eq, look-nil) (record { rs = []; same = refl; clean = refl })
 
 next-reads : (R : ℕ) (bl : Bool) (b o room : ℕ) (l : Laid) (ys : List (List ℕ)) → ReadsFrom R bl (suc b) 0 l fresh ys → ReadsFrom R bl b o (thenNext (fill room) l) fresh ys
@@ -232,23 +201,23 @@ next-reads R bl b o room l ys h = rw (fill-pieces R bl b o room) h
 layS-reads : (R : ℕ) (bl : Bool) (B : ℕ) → B < 10000 → (xs : List (List ℕ)) → FitS R bl B xs → (b o room : ℕ) → room ≤ B → ReadsFrom R bl b o (layS B room xs) fresh xs
 unfolding layS Spreads
 layS-reads R bl B small [] v b o room h = unfold ReadsFrom in none-left (S R bl) b o room
-layS-reads R bl B small (x ∷ xs) v b o room h = go (leb (least x) room) refl (λ b′ o′ room′ h′. layS-reads R bl B small xs (v .2) b′ o′ room′ h′)
+layS-reads R bl B small (x ∷ xs) v b o room h = go (leb (least x) room) refl (λ b′ o′ room′ h′. layS-reads R bl B small xs (v .1) b′ o′ room′ h′)
   where
     go : (t : Bool) → leb (least x) room ≡ t → ((b′ o′ room′ : ℕ) → room′ ≤ B → ReadsFrom R bl b′ o′ (layS B room′ xs) fresh xs)
         → ReadsFrom R bl b o (layS B room (x ∷ xs)) fresh (x ∷ xs)
     go true e k =
         rw e (spread-reads R bl B small (λ r. layS B r xs) xs k (suc (length x)) false room x (le-refl (suc (length x)))
-        (leb→le (least x) room (rw e tt)) h b o fresh [] idle (v .0))
+        (leb-true (least x) room e) h b o fresh [] idle (v .0 .0))
     go false e k =
         rw e (next-reads R bl b o room _ (x ∷ xs) (spread-reads R bl B small (λ r. layS B r xs) xs k (suc (length x)) false B x (le-refl (suc (length x)))
-        (v .1) (le-refl B) (suc b) 0 fresh [] idle (v .0)))
+        (v .0 .1) (le-refl B) (suc b) 0 fresh [] idle (v .0 .0)))
 
 read-laid : (p : Params) (l : Laid) (xs : List (List ℕ)) → Reads (join plain p (laidTokens p 0 0 l) fresh) xs → Reads (readAll plain (fileOf p (l .here ∷ l .later))) xs
 unfolding fileOf listed laidTokens inBlocks inBlock
 read-laid p l xs h = rw readAll-listed h
 
 read-none : (p : Params) → Reads (readAll plain (fileOf p [])) []
-unfolding fileOf listed inBlocks join bodies
+unfolding fileOf listed inBlocks join
 read-none p = rw readAll-listed (record { rs = []; same = refl; clean = refl })
 
 pub write-read-S : (R : ℕ) (bl : Bool) (B : ℕ) → B < 10000 → (xs : List (List ℕ)) → FitS R bl B xs
@@ -294,9 +263,9 @@ module _ (p : Params) (B : ℕ) (free : (n : ℕ) → over p n ≡ false) (Room 
       go : (t : Bool) → leb (length e) room ≡ t → ((b′ o′ room′ : ℕ) → Room room′ → Reads (join plain p (laidTokens p b′ o′ (lay B room′ es)) fresh) xs)
           → Reads (join plain p (laidTokens p b o (lay B room (e ∷ es))) fresh) (x ∷ xs)
       go true q k =
-          rw q (place-reads b o e x (lay B (room - length e) es) xs (v .0) (λ o′. k b o′ (room - length e) (v .2 room h (leb→le (length e) room (rw q tt)))))
+          rw q (place-reads b o e x (lay B (room - length e) es) xs (v .0) (λ o′. k b o′ (room - length e) (v .2 room h (leb-true (length e) room q))))
       go false q k =
-          rw q (over-reads b o room (then e (lay B (B - length e) es)) (x ∷ xs) (v .1 o room h (nleb→lt (length e) room (rw q tt)))
+          rw q (over-reads b o room (then e (lay B (B - length e) es)) (x ∷ xs) (v .1 o room h (leb-false (length e) room q))
           (place-reads (suc b) 0 e x (lay B (B - length e) es) xs (v .0) (λ o′. k (suc b) o′ (B - length e) (v .2 B rb (v .3)))))
 
 -- ---- V
@@ -304,14 +273,7 @@ module _ (p : Params) (B : ℕ) (free : (n : ℕ) → over p n ≡ false) (Room 
 abbrev VP : ℕ → Bool → Params
 VP R bl = record { format = variable; R = R; blocked = bl }
 
-eqb-pos : (x : ℕ) → eqb (48 + x) 0 ≡ false
-eqb-pos x = go (eqb (48 + x) 0) refl
-  where
-    go : (t : Bool) → eqb (48 + x) 0 ≡ t → t ≡ false
-    go true e = let z : 48 + x ≡ 0 = eqb→eq (48 + x) 0 (rw e tt) in absurd (omega arith)
-    go false e = refl
-
-recordV-length : (body : List ℕ) → length (recordV body) ≡ 4 + length body
+pub recordV-length : (body : List ℕ) → length (recordV body) ≡ 4 + length body
 unfolding recordV padded
 recordV-length body = omega arith
 
@@ -322,13 +284,13 @@ lookV-record R bl o body more u h small =
     let n : ℕ = 4 + length body in
     let l : length (body ++ more) ≡ length body + length more = length-append body more in
     rw (
-      leb-false (suc (suc (suc (suc (suc (length (body ++ more))))))) 4 (omega arith),
-      eqb-pos (n / 10 / 10 / 10 % 10),
+      lt-leb (suc (suc (suc (suc (suc (length (body ++ more))))))) 4 (omega arith),
+      ne-eqb (48 + n / 10 / 10 / 10 % 10) 0 (λ (z : 48 + n / 10 / 10 / 10 % 10 ≡ 0). omega arith),
       u,
       four-digits n (body ++ more) (omega arith),
-      leb-true 4 n (omega arith),
-      leb-true n R h,
-      leb-true n (suc (suc (suc (suc (length (body ++ more)))))) (omega arith),
+      le-leb 4 n (omega arith),
+      le-leb n R h,
+      le-leb n (suc (suc (suc (suc (length (body ++ more)))))) (omega arith),
       take-at body more (n - 4) (omega arith),
     )
     (let z : 4 + length body ≡ suc (suc (suc (suc (length body)))) = omega arith in ap (λ (k : ℕ). piece whole body k) z)
@@ -340,8 +302,7 @@ lookV-fill R bl o (suc n) = rw (or-true, fill-is n)
 
 -- "V length+4 over R"
 abbrev pub FitV : ℕ → List (List ℕ) → Type 0
-FitV R [] = Unit {0}
-FitV R (x ∷ xs) = (4 + length x ≤ R) × FitV R xs
+FitV R xs = Every (λ x. 4 + length x ≤ R) xs
 
 layingV : (R B : ℕ) → R < 10000 → R ≤ B → (xs : List (List ℕ)) → FitV R xs → Laying (VP R true) B (λ _. refl) (λ _. Unit {0}) (map recordV xs) xs
 unfolding look
@@ -370,7 +331,7 @@ one-pieces R b x m h small =
     (pieces-eq (VP R false) b (0 + length (recordV x)) (fill m) ∙ rw (lookV-fill R false (0 + length (recordV x)) m)))
 
 layOne-reads : (R B : ℕ) → R < 10000 → (xs : List (List ℕ)) → FitV R xs → (b : ℕ) → Reads (join plain (VP R false) (inBlocks (VP R false) b (map held (layOne B (map recordV xs)))) fresh) xs
-unfolding layOne inBlocks inBlock join bodies
+unfolding layOne inBlocks inBlock join
 layOne-reads R B small [] v b = record { rs = []; same = refl; clean = refl }
 layOne-reads R B small (x ∷ xs) v b =
     rw (one-pieces R b x (B - length (recordV x)) (v .0) small)
@@ -388,24 +349,23 @@ FP R bl = record { format = fixed; R = R; blocked = bl }
 
 -- "F length not R"
 abbrev pub FitF : ℕ → List (List ℕ) → Type 0
-FitF R [] = Unit {0}
-FitF R (x ∷ xs) = (length x ≡ R) × FitF R xs
+FitF R xs = Every (λ x. length x ≡ R) xs
 
 lookF-record : (R : ℕ) (x more : List ℕ) → 1 ≤ R → length x ≡ R → lookF R (x ++ more) ≡ piece whole x (length x)
 unfolding lookF
 lookF-record R [] more h e = absurd (omega arith)
 lookF-record R (y ∷ x) more h e =
     let l : length (x ++ more) ≡ length x + length more = length-append x more in
-    rw (leb-true 1 R h, leb-true R (suc (length (x ++ more))) (omega arith), take-at (y ∷ x) more R e, e)
+    rw (le-leb 1 R h, le-leb R (suc (length (x ++ more))) (omega arith), take-at (y ∷ x) more R e, e)
 
-abbrev Multiple : ℕ → ℕ → Type 0
+abbrev pub Multiple : ℕ → ℕ → Type 0
 Multiple R room = (q : ℕ) × (room ≡ q * R)
 
-multiple-less : (R room q : ℕ) → room ≡ q * R → R ≤ room → 1 ≤ R → Multiple R (room - R)
+pub multiple-less : (R room q : ℕ) → room ≡ q * R → R ≤ room → 1 ≤ R → Multiple R (room - R)
 multiple-less R room zero e h r = absurd (omega arith)
 multiple-less R room (suc q) e h r = (q, omega arith)
 
-multiple-short : (R room q : ℕ) → room ≡ q * R → room < R → room ≡ 0
+pub multiple-short : (R room q : ℕ) → room ≡ q * R → room < R → room ≡ 0
 multiple-short R room zero e h = omega arith
 multiple-short R room (suc q) e h = absurd (omega arith)
 

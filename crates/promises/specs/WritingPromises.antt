@@ -1,12 +1,14 @@
--- WRITING, as promised: the theorems on an accepted write in one place. Their proofs are in the files that stand before this one in Lib.antt.
+-- WRITING, as promised: the theorems on a write in one place.
 -- Assumes nothing.
-use Prim.Native.Nat.{ℕ, _+_, _-_, _≤_}
-use mathlib.Core.Path.{_≡_, refl, ap, _∙_}
+use Prim.Native.Nat.{_<_, ℕ, _+_, _≤_}
+use mathlib.Core.Path.{subst, sym, _≡_, refl, ap, _∙_}
 use mathlib.Core.Bool.{true}
 use mathlib.Core.List.{List, [], _∷_, _++_, map}
 use lib.ListN.{length, getD, drop, length-drop, take-append-drop}
 use lib.Seq.{length-take-le}
 use native.Mathlib.Omega.{arith}
+use Rattle.standard.specs.Files.{goodRecords, recordsToBlock, blockCount, countRefusal, counted, openRefusal, fileIn, fileAt}
+use Rattle.standard.specs.Writing.{imageWith, total, parted, needed, packed, writeRefusal, unusedField, dataEndAfter, Outcome, outcome, written, imageAfter}
 use Rattle.standard.specs.Characters.{field}
 use Rattle.standard.specs.Layout.{kindOffset, slotCount, labelOffset, labelAt}
 use Rattle.standard.specs.Addresses.{ordinal, fiveBytes}
@@ -16,10 +18,8 @@ use Rattle.standard.specs.Judgement.{judged}
 use Rattle.standard.specs.Finding.{found, foundAt}
 use Rattle.standard.specs.Free.{freeCount}
 use Rattle.standard.specs.Records.{Mode, plain, salvage, readAll}
-use Rattle.standard.specs.Files.{blockCount, countRefusal, counted, openRefusal, fileIn, fileAt}
 use Rattle.standard.specs.Packing.{fileOf}
 use Rattle.standard.specs.Reading.{reply}
-use Rattle.standard.specs.Writing.{total, parted, needed, packed, writeRefusal, unusedField, dataEndAfter, Outcome, outcome, written, imageAfter}
 use Rattle.standard.specs.declared.Geometry.{Geometry}
 use Rattle.standard.specs.declared.Place.{Place}
 use Rattle.standard.specs.declared.Refusal.{Refusal}
@@ -27,20 +27,27 @@ use Rattle.standard.specs.declared.Checked.the-variants.{Passed, Stopped}
 use Rattle.standard.specs.declared.Counted.the-variants.{Count}
 use Rattle.standard.specs.declared.Judged.the-variants.{Refused, Volume}
 use Rattle.standard.specs.declared.Written.the-variants.{Unwritten, Blocks}
-use Rattle.promises.specs.AcceptedLaws.{order-head, order-tail}
-use Rattle.promises.specs.WritingLaws.{Reads}
+use Rattle.promises.specs.Lists.{Every, every-both}
 use Rattle.promises.specs.Splices.{Outside}
-use Rattle.promises.specs.Extents.{Every}
-use Rattle.promises.specs.Passing.{passing, outcome-is, refused-volume, refused-write}
-use Rattle.promises.specs.Frame.{takenBy, after-is, frame-length, frame}
-use Rattle.promises.specs.Judging.{order-on, order-none}
-use Rattle.promises.specs.Result.{result-unused, result-end}
-use Rattle.promises.specs.Again.{accepted-again}
-use Rattle.promises.specs.ReadBack.{count-back, opens-after, file-at-after, read-back}
-use Rattle.promises.specs.Others.{other-label-after, other-open, other-file, other-reply, other-counted, other-writing}
-use Rattle.promises.specs.Finds.{found-after, found-at-after, free-after}
+use Rattle.promises.specs.AddressLaws.{Legal}
+use Rattle.promises.specs.Tiling.{lengths}
+use Rattle.promises.specs.Judging.{order-each, order-all, judged-from}
+use Rattle.promises.specs.AcceptedLaws.{image-length}
+use Rattle.promises.specs.VolumeNumbers.{numbers-of}
+use Rattle.promises.specs.IndexLaws.{SameViews, same-label}
+use Rattle.promises.specs.IndexReads.{views-found, views-found-at, views-free}
+use Rattle.promises.specs.Locality.{SameFile, file-same, open-same, write-same, reply-same, counted-same}
+use Rattle.promises.specs.VolumePromises.{file-at}
+use Rattle.promises.specs.ReadingLaws.{Reads}
 use Rattle.promises.specs.NoneLost.{salvage-alike}
-use Rattle.promises.specs.Rewritten.{written-again}
+use Rattle.promises.specs.Storing.{blocks-outside}
+use Rattle.promises.specs.SettingLabel.{set-outside}
+use Rattle.promises.specs.AcceptedWrite.{passing, outcome-is, takenBy, stored, slot-inside, taken-legal, stored-whole, after-is}
+use Rattle.promises.specs.WrittenImage.{result, result-whole, result-unused, result-end}
+use Rattle.promises.specs.WrittenLabel.{packing}
+use Rattle.promises.specs.AcceptedAgain.{other-sector, views, again}
+use Rattle.promises.specs.ReadBack.{count-back, opens-back, file-back, written-again}
+use Rattle.promises.specs.OtherFiles.{other-same}
 
 -- "Writing takes all record bodies joined, and their lengths." What is parted is the bodies, each of its length.
 abbrev pub joined : List (List ℕ) → List ℕ
@@ -63,22 +70,20 @@ parted-joined (n ∷ lengths) bodies e =
 -- a file that opens is counted
 open-counts : (g : Geometry) (s : List ℕ) (slot : ℕ) → openRefusal g s slot ≡ Passed → countRefusal g s slot ≡ Passed
 unfolding openRefusal countRefusal
-open-counts g s slot h1 =
-    let h2 = order-tail _ _ h1 in
-    let h3 = order-tail _ _ h2 in
-    let h4 = order-tail _ _ h3 in
-    let h5 = order-tail _ _ h4 in
-    let h6 = order-tail _ _ h5 in
-    order-on _ _ (order-head _ _ h1) (order-on _ _ (order-head _ _ h2) (order-on _ _ (order-head _ _ h5) (order-on _ _ (order-head _ _ h6) order-none)))
+open-counts g s slot h =
+    let (r13, (r14, (r15, (r16, (r17, (r18, _)))))) = order-each _ h in
+    order-all _ (r13, (r14, (r17, (r18, tt))))
 
 -- ---- REFUSED: "A refusal returns number and place, and all lent bytes stay."
 pub refused-by-volume : (image : List ℕ) (r : Refusal) (slot : ℕ) (bodies lengths : List ℕ) → judged image ≡ Refused r
     → outcome image slot bodies lengths ≡ record { answer = Unwritten r; image = image }
-refused-by-volume = refused-volume
+unfolding outcome
+refused-by-volume image r slot bodies lengths j = rw j
 
 pub refused-by-file : (image : List ℕ) (g : Geometry) (r : Refusal) (slot : ℕ) (bodies lengths : List ℕ) → judged image ≡ Volume g
     → writeRefusal g image slot bodies lengths ≡ Stopped r → outcome image slot bodies lengths ≡ record { answer = Unwritten r; image = image }
-refused-by-file = refused-write
+unfolding outcome
+refused-by-file image g r slot bodies lengths j w = rw (j, w)
 
 -- ---- ACCEPTED
 module _ (image : List ℕ) (g : Geometry) (slot : ℕ) (bodies lengths : List ℕ) (j : judged image ≡ Volume g)
@@ -92,43 +97,57 @@ module _ (image : List ℕ) (g : Geometry) (slot : ℕ) (bodies lengths : List �
   abbrev after : List ℕ
   after = imageAfter image slot bodies lengths
 
+  abbrev t : List ℕ
+  t = result image g slot bodies lengths j w
+
+  after-t : after ≡ t
+  after-t = after-is image g slot bodies lengths j w
+
   pub answers : written image slot bodies lengths ≡ Blocks blocks
   answers = ap (λ (o : Outcome). o .answer) (outcome-is image g slot bodies lengths j w)
 
   -- 1. THE FRAME
   pub length-stays : length after ≡ length image
-  length-stays = frame-length image g slot bodies lengths j w
+  length-stays = ap length after-t ∙ result-whole image g slot bodies lengths j w ∙ sym (image-length image g j)
 
   pub bytes-stay : (i : ℕ) → Every (λ a. Outside i (kindOffset g (ordinal g a)) (g .P + 1)) (takenBy g image label blocks)
       → Outside i (labelOffset g slot + 57) 5 → Outside i (labelOffset g slot + 74) 5 → getD after i 0 ≡ getD image i 0
-  bytes-stay = frame image g slot bodies lengths j w
+  unfolding imageWith
+  bytes-stay i h a b =
+      ap (λ (s : List ℕ). getD s i 0) after-t
+      ∙ (set-outside g (numbers-of image g j) slot (slot-inside image g slot bodies lengths j w) (packed label bodies lengths .U) (dataEndAfter g image label blocks) (stored image g slot bodies lengths j w)
+      (stored-whole image g slot bodies lengths j w) i a b
+      ∙ blocks-outside g (recordsToBlock g label) (packed label bodies lengths .contents) (goodRecords g image label) image (image-length image g j) i
+      (every-both (Legal g) (λ x. Outside i (kindOffset g (ordinal g x)) (g .P + 1)) (takenBy g image label blocks) (taken-legal image g slot bodies lengths j w) h))
 
   -- 2. ACCEPTED AGAIN
   pub accepted-still : judged after ≡ Volume g
-  accepted-still = accepted-again image g slot bodies lengths j w
+  accepted-still = ap judged after-t ∙ judged-from t g (again image g slot bodies lengths j w)
 
   -- 3. THE READ-BACK
   pub unused-set : field (labelAt g after slot) 58 62 ≡ unusedField (packed label bodies lengths .U)
-  unused-set = ap (λ (s : List ℕ). field (labelAt g s slot) 58 62) (after-is image g slot bodies lengths j w) ∙ result-unused image g slot bodies lengths j w
+  unused-set = ap (λ (s : List ℕ). field (labelAt g s slot) 58 62) after-t ∙ result-unused image g slot bodies lengths j w
 
   pub end-set : field (labelAt g after slot) 75 79 ≡ fiveBytes (dataEndAfter g image label blocks)
-  end-set = ap (λ (s : List ℕ). field (labelAt g s slot) 75 79) (after-is image g slot bodies lengths j w) ∙ result-end image g slot bodies lengths j w
+  end-set = ap (λ (s : List ℕ). field (labelAt g s slot) 75 79) after-t ∙ result-end image g slot bodies lengths j w
 
   pub opens : openRefusal g after slot ≡ Passed
-  opens = opens-after image g slot bodies lengths j w
+  opens = ap (λ (s : List ℕ). openRefusal g s slot) after-t ∙ opens-back image g slot bodies lengths j w
 
   pub counts : counted after slot ≡ Count blocks
   unfolding counted
   counts =
       let c : blockCount g after (labelAt g after slot) ≡ blocks =
-      ap (λ (s : List ℕ). blockCount g s (labelAt g s slot)) (after-is image g slot bodies lengths j w) ∙ count-back image g slot bodies lengths j w in
+      ap (λ (s : List ℕ). blockCount g s (labelAt g s slot)) after-t ∙ count-back image g slot bodies lengths j w in
       rw accepted-still (rw (open-counts g after slot opens, c))
 
   pub file-packed : fileAt after slot ≡ fileOf (paramsOf label) (packed label bodies lengths .contents)
-  file-packed = file-at-after image g slot bodies lengths j w
+  file-packed =
+      file-at after g slot accepted-still ∙ ap (λ (s : List ℕ). fileIn g s (labelAt g s slot)) after-t ∙ file-back image g slot bodies lengths j w
 
   pub reads : Reads (readAll plain (fileAt after slot)) (parted bodies lengths)
-  reads = read-back image g slot bodies lengths j w
+  unfolding packed
+  reads = rw file-packed (packing image g slot bodies lengths j w .reads)
 
   pub salvages : Reads (readAll salvage (fileAt after slot)) (parted bodies lengths)
   salvages = rw (file-packed, salvage-alike) (rw file-packed at reads)
@@ -139,35 +158,46 @@ module _ (image : List ℕ) (g : Geometry) (slot : ℕ) (bodies lengths : List �
       (parted-lengths lengths bodies e, parted-joined lengths bodies e)
 
   -- 4. EVERY OTHER FILE
+  room : 0 < g .P
+  room = numbers-of image g j .size-low
+
+  same-other : (other : ℕ) → (other ≡ slot → ⊥) → SameFile g image after other
+  same-other other ne = subst (λ (s : List ℕ). SameFile g image s other) (sym after-t) (other-same image g slot bodies lengths j w other ne)
+
+  same-views : SameViews g image after
+  same-views = subst (λ (s : List ℕ). SameViews g image s) (sym after-t) (views image g slot bodies lengths j w)
+
   pub labels-stay : (other : ℕ) → (other ≡ slot → ⊥) → 1 ≤ other → other ≤ slotCount g → labelAt g after other ≡ labelAt g image other
-  labels-stay other ne = other-label-after image g slot bodies lengths j w other ne
+  labels-stay other ne l m =
+      ap (λ (s : List ℕ). labelAt g s other) after-t
+      ∙ sym (same-label g image t (numbers-of image g j) other m (other-sector image g slot bodies lengths j w other m ne))
 
   pub opening-stays : (other : ℕ) → (other ≡ slot → ⊥) → openRefusal g after other ≡ openRefusal g image other
-  opening-stays other ne = other-open image g slot bodies lengths j w other ne
+  opening-stays other ne = sym (open-same g image after other room (same-other other ne))
 
   pub files-stay : (other : ℕ) → (other ≡ slot → ⊥) → hasLabel g image other ≡ true
       → fileIn g after (labelAt g after other) ≡ fileIn g image (labelAt g image other)
-  files-stay other ne = other-file image g slot bodies lengths j w other ne
+  files-stay other ne h = sym (file-same g image after other room (same-other other ne) h)
 
   pub readings-stay : (other : ℕ) → (other ≡ slot → ⊥) → (m : Mode) (pl : Place) (size : ℕ) → reply m after other pl size ≡ reply m image other pl size
-  readings-stay other ne = other-reply image g slot bodies lengths j w other ne
+  readings-stay other ne m pl size = sym (reply-same g image after other room (same-other other ne) j accepted-still m pl size)
 
   pub counts-stay : (other : ℕ) → (other ≡ slot → ⊥) → counted after other ≡ counted image other
-  counts-stay other ne = other-counted image g slot bodies lengths j w other ne
+  counts-stay other ne = sym (counted-same g image after other room (same-other other ne) j accepted-still)
 
   -- names, slots and free records
   pub names-stay : (name : List ℕ) → found after name ≡ found image name
-  names-stay = found-after image g slot bodies lengths j w
+  names-stay name = sym (views-found g image after same-views j accepted-still name)
 
   pub slots-stay : (s : ℕ) → foundAt after s ≡ foundAt image s
-  slots-stay = found-at-after image g slot bodies lengths j w
+  slots-stay s = sym (views-found-at g image after same-views j accepted-still s)
 
   pub free-stays : freeCount after ≡ freeCount image
-  free-stays = free-after image g slot bodies lengths j w
+  free-stays = sym (views-free g image after same-views j accepted-still)
 
   -- 5. EVERY FURTHER WRITE: refused or not as before
   pub writing-again : (b l : List ℕ) → writeRefusal g after slot b l ≡ writeRefusal g image slot b l
-  writing-again = written-again image g slot bodies lengths j w
+  writing-again b l = ap (λ (s : List ℕ). writeRefusal g s slot b l) after-t ∙ written-again image g slot bodies lengths j w b l
 
   pub writing-stays : (other : ℕ) → (other ≡ slot → ⊥) → (b l : List ℕ) → writeRefusal g after other b l ≡ writeRefusal g image other b l
-  writing-stays other ne = other-writing image g slot bodies lengths j w other ne
+  writing-stays other ne b l = sym (write-same g image after other room (same-other other ne) b l)

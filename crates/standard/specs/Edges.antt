@@ -6,12 +6,15 @@ use mathlib.Core.Bool.{Bool, true, false}
 use mathlib.Core.List.{List, [], _∷_, _++_, map}
 use lib.ListN.{replicate}
 use Prim.Native.String.{String}
-use Rattle.standard.specs.Characters.{bytes, isDigit, digitValue, padded}
-use Rattle.standard.specs.Addresses.{addressIn, index}
+use Rattle.standard.specs.Characters.{bytes, oneOf, same, every, aSet, isDigit, digitValue, numberFrom, spacesOrNumber, padded, shownBy, shown}
+use Rattle.standard.specs.Refusals.{lowestFault}
+use Rattle.standard.specs.Addresses.{fiveDigits, addressIn, legal, index, before, pastLast, isAddress, isDataEnd, fiveBytes}
+use Rattle.standard.specs.Labels.{knownLevel, anotherLevel, recordLength, unusedCount, rule44, rule6, rule29, rule35, rule40, rule23, rule63, rule41, rule42, rule43, rule45, rule46, spacesOrDate, rule48, rule67, rule54, rule58, rule64, rule73, rule75, hdr1Rules, labelFault}
 use Rattle.standard.specs.Judgement.{overlap}
-use Rattle.standard.specs.Pieces.{Block, lostBlock, held, Format, fixed, variable, spanned, number4, kindOf, lookF, lookV, lookS, look, walk, pieces, inBlock, inBlocks, ahead}
-use Rattle.standard.specs.Records.{plain, salvage, File, Record, Met, took, ended, refused, refuse20, refuse21, refuse22, answer, step, Item, rec, gap, end, no, enough, readOn, readAll}
-use Rattle.standard.specs.Packing.{Packing, recordV, segment, lay, layOne, spread, layS, pack}
+use Rattle.standard.specs.Pieces.{Block, lostBlock, held, fixed, variable, spanned, number4, kindOf, lookF, lookV, lookS, look, walk, pieces, inBlock, inBlocks, ahead}
+use Rattle.standard.specs.Records.{plain, salvage, File, Record, took, ended, refused, refuse20, refuse21, refuse22, answer, step, rec, gap, end, no, enough, readOn, readAll}
+use Rattle.standard.specs.Packing.{Packing, segment, spread, layS, pack}
+use Rattle.standard.specs.Writing.{unusedField}
 use Rattle.standard.specs.declared.Geometry.{Geometry}
 use Rattle.standard.specs.declared.Place.{Place}
 
@@ -139,3 +142,47 @@ pub edges-overlap :
     × (shared "02002" "02003" ≡ true)
 unfolding digitValue addressIn index overlap
 edges-overlap = (refl, refl, refl, refl, refl, refl)
+
+-- HDR1 of a file from 02001 to 03008 with an empty data end: format, level, B, R, U and position 63 as given
+abbrev label : String → String → String → String → String → String → List ℕ
+label format level B R U blocked =
+    bytes "HDR1 LOG              " ++ (bytes B ++ (bytes " 02001 03008" ++ (bytes format ++ (bytes "   " ++ (bytes level ++ (replicate 9 32
+    ++ (bytes R ++ (bytes U ++ (bytes blocked ++ (replicate 11 32 ++ bytes "02001"))))))))))
+
+abbrev faultOf : String → String → String → String → String → String → ℕ
+faultOf format level B R U blocked = labelFault volume (label format level B R U blocked)
+
+pub edges-rules :
+    (faultOf "V" "2" "00256" "0100" "     " "B" ≡ 0)
+    -- "A part of a rule that reads another field is not applied while that field is itself at fault": 23 reads 40, which is at fault at level 1
+    × (faultOf "V" "1" "00003" "    " "     " " " ≡ 40)
+    × (faultOf "V" "2" "00003" "    " "     " " " ≡ 23)
+    -- "at least 1, 4, 5 for F, V, S" is one part: without a format it says nothing
+    × (faultOf "X" "2" "00000" "    " "     " " " ≡ 40)
+    -- "equal to B if unblocked, else a divisor of B" is one part, and reads 63; "1 to B" does not
+    × (faultOf "F" "2" "00030" "0007" "     " "X" ≡ 63)
+    × (faultOf "F" "2" "00030" "0031" "     " "X" ≡ 54)
+    -- "0 if unblocked" reads 63, which S needs to be B
+    × (faultOf "S" "2" "00256" "0000" "00001" " " ≡ 63)
+    -- level space: 63 is at fault, and "for F a multiple of R" still applies
+    × (faultOf " " " " "00128" "    " "00001" "B" ≡ 58)
+    -- "With 44 outside the a-set every field is judged, without the parts that name a level"
+    × (faultOf "V" "#" "00256" "0100" "     " "B" ≡ 44)
+    × (faultOf "X" "#" "00256" "0100" "     " "B" ≡ 40)
+    -- "Another level has only 1-4, 29-33, 35-39 and 44 judged."
+    × (faultOf "X" "3" "?????" "    " "     " "?" ≡ 0)
+    -- "V and S at most 9,999 (house)", "at most D·P"
+    × (faultOf "V" "2" "01024" "0100" "     " "B" ≡ 0)
+    × (faultOf "V" "2" "01152" "0100" "     " "B" ≡ 23)
+unfolding oneOf same every aSet isDigit digitValue numberFrom spacesOrNumber lowestFault fiveDigits addressIn legal index before pastLast isAddress isDataEnd knownLevel anotherLevel recordLength unusedCount rule44 rule6 rule29 rule35 rule40 rule23 rule63 rule41 rule42 rule43 rule45 rule46 spacesOrDate rule48 rule67 rule54 rule58 rule64 rule73 rule75 hdr1Rules labelFault
+edges-rules = (refl, refl, refl, refl, refl, refl, refl, refl, refl, refl, refl, refl, refl)
+
+pub edges-fields :
+    -- "Then U (spaces for 0)"
+    (unusedField 0 ≡ bytes "     ")
+    × (unusedField 56 ≡ bytes "00056")
+    -- "Addresses have five digits, other numbers no leading zeros."
+    × (fiveBytes (addressIn (bytes "01104")) ≡ bytes "01104")
+    × (map shown (0 ∷ 10 ∷ 9546 ∷ []) ≡ bytes "0" ∷ bytes "10" ∷ bytes "9546" ∷ [])
+unfolding digitValue padded shownBy addressIn
+edges-fields = (refl, refl, refl, refl)

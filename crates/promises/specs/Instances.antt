@@ -1,0 +1,163 @@
+-- Two small images in which the theorems say something: what is promised of images is promised of these. Examples 9 and 10 of the document in an image, and a
+-- volume with a write to it that is accepted.
+-- Assumes nothing.
+use Prim.Native.Nat.{ℕ, zero, suc, _-_, _<_}
+use mathlib.Core.Path.{_≡_, refl, subst, ap, _∙_}
+use mathlib.Core.Bool.{true, false}
+use mathlib.Core.List.{List, [], _∷_, _++_, map}
+use lib.ListN.{length, replicate}
+use native.Mathlib.Omega.{arith}
+use borrow.Author.Tests.{eqb-true}
+use Rattle.standard.specs.Characters.{oneOf, same, every, aSet, isDigit, digitValue, numberFrom, isHex, hexValue, hexFrom, bytes, spacesOrNumber, padded, shownBy}
+use Rattle.standard.specs.Refusals.{inOrder, orElse, lowestFault, given-when, refuse}
+use Rattle.standard.specs.Layout.{ordinalAt, sectorCount, kAt, bodySize, kindOffset, bodyOffset, imageLength, kindAt, bodyAt, firstByte, validMark, incorrectMark, checkFailed, indexKind, indexBody, slotCount, slotOrdinal, labelOffset, labelAt}
+use Rattle.standard.specs.Volume.{vol1Rules}
+use Rattle.standard.specs.Defects.{ermapRules, firstDefect, secondDefect, skipOne, physical}
+use Rattle.standard.specs.Addresses.{fiveDigits, addressIn, fiveRead, legal, index, before, stepped, pastLast, isAddress, isDataEnd, ordinal}
+use Rattle.standard.specs.Labels.{knownLevel, anotherLevel, formatOf, recordLength, unusedCount, rule44, rule6, rule29, rule35, rule40, rule23, rule63, rule41, rule42, rule43, rule45, rule64, rule73, rule46, spacesOrDate, rule48, rule67, rule54, rule58, rule75, hdr1Rules, labelFault}
+use Rattle.standard.specs.Slots.{isLabel, isDeleted, isUnreadable, slotRefusal, slotsFrom, hasLabel}
+use Rattle.standard.specs.Judgement.{numbersIn, legalKind, kindsFrom, clashesBelow, clashesFrom, overlap, shares, sameName, namesake, volumeRefusal, judged}
+use Rattle.standard.specs.Files.{addressesFrom, extentSize, extent, isDefective, goodAmong, goodRecords, recordsToBlock, goodBefore, dataEndAtStart, dataEndInExtent, blocksHeld, blockCount, isWrong, wrongAmong, splitsBlock, countRefusal, counted, openRefusal, anyFailed, bytesOf, blockOf, blocksFrom, fileIn, fileAt}
+use Rattle.standard.specs.Records.{answer, step, inFile, readOn, enough, readAll, join, listed, plain, salvage, start, Record}
+use Rattle.standard.specs.Pieces.{look, walk, pieces, inBlock, inBlocks, ahead, number4, kindOf, lookF, lookV, lookS, variable, spanned}
+use Rattle.standard.specs.Reading.{replyIn, reply, laidOver}
+use Rattle.standard.specs.declared.Geometry.{Geometry}
+use Rattle.standard.specs.declared.Judged.the-variants.{Volume}
+use Rattle.standard.specs.Packing.{recordV, segment, lay, layOne, spread, layS, pack, fileOf}
+use Rattle.standard.specs.Writing.{written, imageAfter, total, parted, wrongLength, lengthsFrom, packed, writeRefusal, splice, filledTo, storeRecord, storeBlock, storeBlocks, nextDataEnd, dataEndAfter, setLabel, imageWith, outcome}
+use Rattle.standard.specs.declared.Checked.the-variants.{Passed}
+use Rattle.standard.specs.declared.Written.the-variants.{Blocks}
+use Rattle.promises.specs.Sectors.{sectorOf}
+use Rattle.promises.specs.ReadingLaws.{bodyOf, Reads}
+use Rattle.promises.specs.Following.{told, hole, done, following, refused}
+use Rattle.promises.specs.Failing.{Failed, recordsOf, OfBlocks, ReadsWhole, Salvaged, gone, anyHit}
+use Rattle.promises.specs.Failable.{failedAt, failedIn, among, some-fail}
+use Rattle.promises.specs.Promises.{SalvagePromise, salvage-promise}
+use Rattle.promises.specs.WritingPromises.{reads}
+use Rattle.promises.specs.PlainFailed.{FirstGone, ReadUpTo, plain-up-to}
+use Rattle.promises.specs.WrittenHeard.{written-heard}
+use Rattle.promises.specs.NeededLaws.{neededFrom, spreadTo}
+
+-- a sector of 128 bytes with a valid mark: some bytes, and spaces behind them
+abbrev sector : List ℕ → List ℕ
+sector b = 0 ∷ (b ++ replicate (128 - length b) 32)
+
+abbrev blankSectors : ℕ → List ℕ
+blankSectors zero = []
+blankSectors (suc n) = sector [] ++ blankSectors n
+
+-- a block and the rest of its physical record
+abbrev block : List ℕ → List ℕ
+block content = content ++ replicate (128 - length content) 0
+
+-- THE FIRST: L = 1, I = 8, D = 3, P = 128, S = 1, and a file of format S, B = 20, R = 0000, U = 12, from 01001 to 01003
+unfoldable pub image : List ℕ
+image =
+    blankSectors 4
+    ++ sector (bytes "ERMAP")
+    ++ sector []
+    ++ sector (bytes "VOL1DEMO01                                                             A      3 010803  1")
+    ++ sector (bytes "HDR1 LOG              00020 01001 01003S   2         000000012B           02001")
+    ++ sector (block (bytes "00013AAAAAAAA10007BB"))
+    ++ sector (block (bytes "30015BBBBBBBBBB"))
+    ++ sector (block (bytes "00008CCC"))
+    ++ blankSectors 9
+
+-- an output of 12 bytes, with anything in it
+abbrev pub output : List ℕ
+output = replicate 12 255
+
+abbrev pub geometry : Geometry
+geometry = record { L = 1; I = 8; D = 3; k = 0; P = 128; S = 1; d1 = 0; d2 = 0 }
+
+abbrev bodies : List (List ℕ)
+bodies = bytes "AAAAAAAA" ∷ bytes "BBBBBBBBBBBB" ∷ bytes "CCC" ∷ []
+
+-- What is computed of it. It is accepted; example 9 is read back; example 10, where block 1 is lost: its sector is the tenth, ordinal 9, in the image, and
+-- of block 1.
+pub computed : (judged image ≡ Volume geometry)
+    × (following 4 plain image 1 output start ≡ map told bodies ++ (done ∷ []))
+    × (following 4 salvage (failedAt geometry 9 image) 1 output start ≡ told (bytes "AAAAAAAA") ∷ hole 1 ∷ told (bytes "CCC") ∷ done ∷ [])
+    × (following 4 plain (failedAt geometry 9 image) 1 output start ≡ told (bytes "AAAAAAAA") ∷ refused (refuse 20 1) ∷ [])
+    × (kindOffset geometry 9 < length image)
+    × (1 < blockCount geometry image (labelAt geometry image 1))
+    × (sectorOf geometry (recordsOf geometry image (labelAt geometry image 1) 1) 9 ≡ true)
+    × (gone geometry (among (9 ∷ [])) image (labelAt geometry image 1) 0 ≡ false)
+    × (gone geometry (among (9 ∷ [])) image (labelAt geometry image 1) 1 ≡ true)
+unfolding image oneOf same every aSet isDigit digitValue numberFrom spacesOrNumber isHex hexValue hexFrom given-when inOrder orElse lowestFault ordinalAt sectorCount kAt bodySize kindOffset bodyOffset imageLength kindAt bodyAt firstByte validMark incorrectMark checkFailed indexKind indexBody slotCount slotOrdinal labelOffset labelAt vol1Rules ermapRules firstDefect secondDefect rule41 rule42 rule43 rule45 rule64 rule73 skipOne physical fiveDigits addressIn fiveRead legal index before stepped pastLast isAddress isDataEnd ordinal knownLevel anotherLevel formatOf recordLength unusedCount rule44 rule6 rule29 rule35 rule40 rule23 rule63 rule46 spacesOrDate rule48 rule67 rule54 rule58 rule75 hdr1Rules labelFault isLabel isDeleted isUnreadable slotRefusal slotsFrom hasLabel numbersIn legalKind kindsFrom clashesBelow clashesFrom overlap shares sameName namesake volumeRefusal judged addressesFrom extentSize extent isDefective goodAmong goodRecords recordsToBlock goodBefore dataEndAtStart dataEndInExtent blocksHeld blockCount isWrong wrongAmong splitsBlock countRefusal counted openRefusal anyFailed bytesOf blockOf blocksFrom fileIn fileAt answer step inFile readOn enough readAll join listed number4 kindOf lookF lookV lookS look walk pieces inBlock inBlocks ahead replyIn reply laidOver following failedAt sectorOf recordsOf anyHit gone among
+computed = (refl, refl, refl, refl, omega arith, omega arith, refl, refl, refl)
+
+-- THE PROMISE OF SALVAGE HOLDS OF SOMETHING: its premises are met by this image and this failure
+reads-whole : ReadsWhole image 1 bodies
+reads-whole = record { readings = 4; out = output; hears = computed .1 }
+
+fails-9 : Failed geometry (among (9 ∷ [])) image (failedIn geometry (9 ∷ []) image)
+fails-9 = some-fail geometry (9 ∷ []) image (computed .4, tt)
+
+only-9 : (n : ℕ) → among (9 ∷ []) n ≡ true → 9 ≡ n
+unfolding among
+only-9 n h = eqb-true 9 n h
+
+of-blocks : OfBlocks geometry (among (9 ∷ [])) image (labelAt geometry image 1)
+unfolding OfBlocks
+of-blocks n h =
+    (1, computed .5, subst (λ (x : ℕ). sectorOf geometry (recordsOf geometry image (labelAt geometry image 1) 1) x ≡ true) (only-9 n h) (computed .6))
+
+pub salvaged-instance : (rs : List Record) × (map bodyOf rs ≡ bodies) × Salvaged geometry (among (9 ∷ [])) image (failedIn geometry (9 ∷ []) image) 1 rs
+unfolding SalvagePromise
+salvaged-instance = salvage-promise image (failedIn geometry (9 ∷ []) image) geometry 1 bodies (among (9 ∷ [])) (computed .0) reads-whole fails-9 of-blocks
+
+-- and so is that of plain reading: block 1 is the first that is gone
+first-gone : FirstGone (gone geometry (among (9 ∷ [])) image (labelAt geometry image 1)) (blockCount geometry image (labelAt geometry image 1)) 1
+first-gone =
+    record {
+      inside = computed .5;
+      taken = computed .8;
+      kept = λ a l. let e : a ≡ 0 = omega arith in ap (gone geometry (among (9 ∷ [])) image (labelAt geometry image 1)) e ∙ computed .7;
+    }
+
+pub plain-instance : ReadUpTo geometry (failedIn geometry (9 ∷ []) image) 1 1 (salvaged-instance .0)
+plain-instance =
+    plain-up-to image (failedIn geometry (9 ∷ []) image) geometry 1 (among (9 ∷ [])) (salvaged-instance .0) (salvaged-instance .2) 1 first-gone
+
+-- THE SECOND: L = 1, I = 8, D = 1, P = 128, S = 1 (1,548 bytes), with one label: V blocked, B = 128, R = 100, in one record
+abbrev pub demo : List ℕ
+demo =
+    blankSectors 4
+    ++ sector (bytes "ERMAP")
+    ++ sector []
+    ++ sector (bytes "VOL1DEMO01                                                             A      3 010801  1")
+    ++ sector (bytes "HDR1 LOG              00128 01001 01001V   2         0100     B           01001")
+    ++ blankSectors 4
+
+abbrev pub demoVolume : Geometry
+demoVolume = record { L = 1; I = 8; D = 1; k = 0; P = 128; S = 1; d1 = 0; d2 = 0 }
+
+abbrev pub demoBodies : List ℕ
+demoBodies = bytes "PARTSLOG"
+
+abbrev pub demoLengths : List ℕ
+demoLengths = 5 ∷ 3 ∷ []
+
+pub demo-accepted : (length demo ≡ 1548) × (judged demo ≡ Volume demoVolume) × (writeRefusal demoVolume demo 1 demoBodies demoLengths ≡ Passed)
+    × (written demo 1 demoBodies demoLengths ≡ Blocks 1)
+unfolding oneOf same every aSet isDigit digitValue numberFrom spacesOrNumber isHex hexValue hexFrom padded shownBy given-when inOrder orElse lowestFault ordinalAt sectorCount kAt bodySize kindOffset bodyOffset imageLength kindAt bodyAt firstByte validMark incorrectMark checkFailed indexKind indexBody slotCount slotOrdinal labelOffset labelAt vol1Rules ermapRules firstDefect secondDefect rule41 rule42 rule43 rule45 rule64 rule73 skipOne physical fiveDigits addressIn fiveRead legal index before stepped pastLast isAddress isDataEnd ordinal knownLevel anotherLevel formatOf recordLength unusedCount rule44 rule6 rule29 rule35 rule40 rule23 rule63 rule46 spacesOrDate rule48 rule67 rule54 rule58 rule75 hdr1Rules labelFault isLabel isDeleted isUnreadable slotRefusal slotsFrom hasLabel numbersIn legalKind kindsFrom clashesBelow clashesFrom overlap shares sameName namesake volumeRefusal judged addressesFrom extentSize extent isDefective goodAmong goodRecords recordsToBlock goodBefore dataEndAtStart dataEndInExtent blocksHeld blockCount isWrong wrongAmong splitsBlock countRefusal counted openRefusal anyFailed bytesOf blockOf blocksFrom fileIn fileAt recordV segment lay layOne spread layS pack fileOf total parted wrongLength lengthsFrom packed writeRefusal splice filledTo storeRecord storeBlock storeBlocks nextDataEnd dataEndAfter setLabel imageWith outcome
+demo-accepted = (refl, refl, refl, refl)
+
+-- THE PROMISES OF WRITING SAY SOMETHING: the two records are read back
+pub demo-read : Reads (readAll plain (fileAt (imageAfter demo 1 demoBodies demoLengths) 1)) (bytes "PARTS" ∷ bytes "LOG" ∷ [])
+unfolding parted
+demo-read = reads demo demoVolume 1 demoBodies demoLengths (demo-accepted .1) (demo-accepted .2)
+
+-- and heard again, in an output of 5 bytes
+pub demo-heard : following 3 plain (imageAfter demo 1 demoBodies demoLengths) 1 (replicate 5 255) start ≡ told (bytes "PARTS") ∷ told (bytes "LOG") ∷ done ∷ []
+unfolding parted
+demo-heard =
+    written-heard demo demoVolume 1 demoBodies demoLengths (demo-accepted .1) (demo-accepted .2) plain 3 (replicate 5 255) (omega arith, (omega arith, tt))
+
+-- THE BLOCKS NEEDED, counted from the lengths alone: those of examples 8, 9 and 12
+pub needed-examples : (neededFrom variable true 30 0 0 (10 ∷ 10 ∷ 10 ∷ []) ≡ 2)
+    × (neededFrom spanned true 20 0 0 (8 ∷ 12 ∷ 3 ∷ []) ≡ 3)
+    × (neededFrom spanned true 20 0 0 (20 ∷ 20 ∷ []) ≡ 3)
+unfolding neededFrom spreadTo
+needed-examples = (refl, refl, refl)
