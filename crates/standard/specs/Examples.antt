@@ -56,32 +56,32 @@ abbrev record9 : List ℕ → ℕ → ℕ → Item
 record9 body first last = rec (record { body = body; firstBlock = first; lastBlock = last })
 
 pub examples :
-    -- 1
+    -- "1. D=8, S=2: 01008 steps to 01101."
     (stepped (volume 5 8 2 0 0) (addressIn (bytes "01008")) ≡ addressIn (bytes "01101"))
-    -- 2
+    -- "2. 01108 to 02001."
     × (stepped (volume 5 8 2 0 0) (addressIn (bytes "01108")) ≡ addressIn (bytes "02001"))
-    -- 3
+    -- "3. S=1, L=5: 05008 to 06001."
     × (stepped (volume 5 8 1 0 0) (addressIn (bytes "05008")) ≡ addressIn (bytes "06001"))
-    -- 4
+    -- "4. d1=10, d2=11: cylinder 9 is 9, 10 is 12."
     × (map (physical (volume 73 8 1 10 11)) (9 ∷ 10 ∷ []) ≡ 9 ∷ 12 ∷ [])
-    -- 5
+    -- "5. L=73, d1=73, d2=74: 72 is 72, 73 is 75."
     × (map (physical (volume 73 8 1 73 74)) (72 ∷ 73 ∷ []) ≡ 72 ∷ 75 ∷ [])
-    -- 6
+    -- "6. 8 good, m=2, 3 blocks: data end at the 7th; 4 blocks: past the end."
     × (map (dataEnd eightGood) (3 ∷ 4 ∷ []) ≡ addressIn (bytes "01007") ∷ addressIn (bytes "02001") ∷ [])
-    -- 7
+    -- "7. 7 good, m=2, 3 blocks: past the end."
     × (dataEnd sevenGood 3 ≡ addressIn (bytes "02001"))
-    -- 8
+    -- "8. V, B=R=30, bodies 10, 10, 10: two blocks, U=16."
     × ((length (written8 .contents) ∷ written8 .U ∷ []) ≡ 2 ∷ 16 ∷ [])
-    -- 9
+    -- "9. S, B=20, R=0000, bodies 8, 12, 3: `00013`; `10007` with 2 bytes; `30015` with 10; a third block `00008`; U=12."
     × (written9 ≡ record {
       contents = bytes "00013AAAAAAAA10007BB" ∷ (bytes "30015BBBBBBBBBB" ++ replicate 5 0) ∷ bytes "00008CCC" ∷ [];
       U = 12;
     })
-    -- 10
+    -- "10. In 9, block 1 (of 0 to 2) lost: body 8, gap, body 3."
     × (salvaged written9 1 ≡ record9 (bytes "AAAAAAAA") 0 0 ∷ gap 1 ∷ record9 (bytes "CCC") 2 2 ∷ end ∷ [])
-    -- 11
+    -- "11. Block 0 lost: gap, body 3."
     × (salvaged written9 0 ≡ gap 0 ∷ record9 (bytes "CCC") 2 2 ∷ end ∷ [])
-    -- 12
-    × (salvaged written12 1 ≡ gap 1 ∷ end ∷ [])
+    -- "12. S, B=20, bodies 20, 20, middle block of three lost: one gap only."
+    × ((length (written12 .contents) ≡ 3) × (salvaged written12 1 ≡ gap 1 ∷ end ∷ []))
 unfolding isDigit digitValue padded number4 kindOf lookV lookS addressIn stepped skipOne physical addressesFrom nextDataEnd recordV segment lay layOne spread layS pack fileOf damage damaged look walk pieces inBlock inBlocks ahead answer step enough readOn readAll
-examples = (refl, refl, refl, refl, refl, refl, refl, refl, refl, refl, refl, refl)
+examples = (refl, refl, refl, refl, refl, refl, refl, refl, refl, refl, refl, (refl, refl))
