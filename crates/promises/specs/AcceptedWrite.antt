@@ -13,7 +13,7 @@ use Rattle.standard.specs.Labels.{knownLevel}
 use Rattle.standard.specs.Slots.{hasLabel}
 use Rattle.standard.specs.Judgement.{judged}
 use Rattle.standard.specs.Files.{refusal17, blocksHeld, goodRecords, recordsToBlock, isDefective, extent}
-use Rattle.standard.specs.Writing.{total, lengthsFrom, needed, packed, writeRefusal, imageWith, outcome, storeBlocks, imageAfter, Outcome}
+use Rattle.standard.specs.Writing.{total, lengthsFrom, needed, packing, writeRefusal, imageWith, outcome, storeBlocks, imageAfter, Outcome}
 use Rattle.standard.specs.declared.Geometry.{Geometry}
 use Rattle.standard.specs.declared.Checked.the-variants.{Passed}
 use Rattle.standard.specs.declared.Judged.the-variants.{Volume}
@@ -59,7 +59,7 @@ pub outcome-is : (image : List ℕ) (g : Geometry) (slot : ℕ) (bodies lengths 
     → outcome image slot bodies lengths
     ≡ record {
       answer = Blocks (needed (labelAt g image slot) bodies lengths);
-      image = imageWith g image slot (packed (labelAt g image slot) bodies lengths);
+      image = imageWith g image slot (packing (labelAt g image slot) bodies lengths);
     }
 unfolding outcome
 outcome-is image g slot bodies lengths j w = rw (j, w)
@@ -77,7 +77,7 @@ module _ (image : List ℕ) (g : Geometry) (slot : ℕ) (bodies lengths : List �
   blocks = needed label bodies lengths
 
   abbrev pub stored : List ℕ
-  stored = storeBlocks g (recordsToBlock g label) (packed label bodies lengths .contents) (goodRecords g image label) image
+  stored = storeBlocks g (recordsToBlock g label) (packing label bodies lengths .contents) (goodRecords g image label) image
 
   pub label-range : InRange g label
   label-range = label-in-range image g slot j (passing g image slot bodies lengths w .labelled)
@@ -95,7 +95,7 @@ module _ (image : List ℕ) (g : Geometry) (slot : ℕ) (bodies lengths : List �
   taken-good = every-take (λ a. isDefective g image a ≡ false) (blocks * recordsToBlock g label) (goodRecords g image label) (good-sound g image (extent g label))
 
   pub stored-whole : WholeImage g stored
-  stored-whole = blocks-length g image (image-length image g j) (recordsToBlock g label) (packed label bodies lengths .contents) (goodRecords g image label) taken-legal
+  stored-whole = blocks-length g image (image-length image g j) (recordsToBlock g label) (packing label bodies lengths .contents) (goodRecords g image label) taken-legal
 
-  pub after-is : imageAfter image slot bodies lengths ≡ imageWith g image slot (packed label bodies lengths)
+  pub after-is : imageAfter image slot bodies lengths ≡ imageWith g image slot (packing label bodies lengths)
   after-is = ap (λ (o : Outcome). o .image) (outcome-is image g slot bodies lengths j w)

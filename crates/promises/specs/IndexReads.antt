@@ -11,7 +11,7 @@ use Rattle.standard.specs.Layout.{indexSectors, bodySize, kindOffset, slotCount
 use Rattle.standard.specs.Addresses.{addressCount}
 use Rattle.standard.specs.Slots.{hasLabel}
 use Rattle.standard.specs.Judgement.{judged}
-use Rattle.standard.specs.Finding.{isNamed, foundFrom, foundSlot, found, foundAt, labelPart, labelNamed, labelIn}
+use Rattle.standard.specs.Finding.{isNamed, foundFrom, foundSlot, found, foundAt, labelPart, labelNamed, labelInSlot}
 use Rattle.standard.specs.declared.Geometry.{Geometry}
 use Rattle.standard.specs.declared.Found.{Found}
 use Rattle.standard.specs.declared.Found.the-variants.{Unfound, At}
@@ -115,8 +115,8 @@ module _ (image image′ : List ℕ) (g g′ : Geometry) (j : judged image ≡ V
       (part-alike (foundFrom g image name (slotCount g) 1) (found-within g image name (slotCount g) 1 (omega arith))
       ∙ ap (labelPart g image′) (found-same g image image′ views name (slotCount g) 1 (omega arith)))
 
-  pub index-label-in : (slot : ℕ) → labelIn image slot ≡ labelIn image′ slot
-  unfolding labelIn
+  pub index-label-in : (slot : ℕ) → labelInSlot image slot ≡ labelInSlot image′ slot
+  unfolding labelInSlot
   index-label-in slot =
       rw (j, judged-same)
       (part-alike (foundSlot g image slot) (slot-within g image slot) ∙ ap (labelPart g image′) (slot-same g image image′ views slot))

@@ -18,7 +18,7 @@ use Rattle.standard.specs.Slots.{hasLabel}
 use Rattle.standard.specs.Judgement.{judged}
 use Rattle.standard.specs.Pieces.{Format, fixed, variable, spanned}
 use Rattle.standard.specs.Packing.{Laid, recordV, placeIf, lay, layOne, spreadIf, spread, least, startIf, layS, packIn, pack}
-use Rattle.standard.specs.Writing.{total, parted, wrongIn, wrongLength, lengthsFrom, packed, needed}
+use Rattle.standard.specs.Writing.{total, parted, wrongIn, wrongLength, lengthsFrom, packing, needed}
 use Rattle.standard.specs.declared.Geometry.{Geometry}
 use Rattle.standard.specs.declared.Checked.the-variants.{Passed}
 use Rattle.standard.specs.declared.Judged.the-variants.{Volume}
@@ -369,7 +369,7 @@ bound-any spanned bl B room blocks lengths h = bound-spanned bl B room blocks le
 module _ (g : Geometry) (h bodies lengths : List ℕ) (r : Rules g h) (sum : total lengths ≡ length bodies) (fits : lengthsFrom h 0 lengths ≡ Passed) where
   -- THE BLOCKS NEEDED ARE COUNTED OVER THE LENGTHS, from no block and no room on; the bytes do not matter
   pub needed-counted : needed h bodies lengths ≡ neededFrom (formatOf h) (isBlocked h) (blockLength h) 0 0 lengths
-  unfolding packed pack
+  unfolding packing pack
   needed-counted =
       let e = parted-lengths lengths bodies sum in
       pack-count (formatOf h) (isBlocked h) (blockLength h) (parted bodies lengths) (subst (EachFits (formatOf h) (blockLength h)) (sym e) (each-fits g h r 0 lengths fits))

@@ -10,7 +10,7 @@ use lib.Dec.{leb}
 use native.Mathlib.Omega.{arith}
 use native.Mathlib.Nat.{not-suc-le-zero, le-refl}
 use borrow.Author.Tests.{leb-true, leb-false}
-use Rattle.standard.specs.Packing.{Laid, then, segment, lay, segmentKind, spread, least, layS}
+use Rattle.standard.specs.Packing.{Laid, then, segment, lay, segmentRole, spread, least, layS}
 use Rattle.promises.specs.Lists.{Every}
 use Rattle.promises.specs.WritingLaws.{segment-length, least-of, least-five}
 
@@ -49,8 +49,8 @@ spread-size B more k (suc n) begun room body hn hl hr =
         → SizesOf B room (spread (suc n) B begun room body more)
     go true q ih =
         let fits : 5 + length body ≤ room = leb-true (5 + length body) room q in
-        let l : length (segment (segmentKind begun true) body) ≡ 5 + length body = segment-length (segmentKind begun true) body in
-        rw q (sizes-then B room (5 + length body) (segment (segmentKind begun true) body) (more (room - (5 + length body))) l fits (k (room - (5 + length body)) (omega arith)))
+        let l : length (segment (segmentRole begun true) body) ≡ 5 + length body = segment-length (segmentRole begun true) body in
+        rw q (sizes-then B room (5 + length body) (segment (segmentRole begun true) body) (more (room - (5 + length body))) l fits (k (room - (5 + length body)) (omega arith)))
     go false q ih =
         let over-room : room < 5 + length body = leb-false (5 + length body) room q in
         let five : 5 ≤ least body = least-five body in
@@ -58,7 +58,7 @@ spread-size B more k (suc n) begun room body hn hl hr =
         let lc : length (take (room - 5) body) ≡ room - 5 = length-take-le (room - 5) body (omega arith) in
         let lr : length (drop (room - 5) body) ≡ length body - (room - 5) = length-drop (room - 5) body in
         let six′ : least (drop (room - 5) body) ≡ 6 = least-of (drop (room - 5) body) (omega arith) in
-        let l : length (segment (segmentKind begun false) (take (room - 5) body)) ≡ 5 + length (take (room - 5) body) = segment-length (segmentKind begun false) (take (room - 5) body) in
+        let l : length (segment (segmentRole begun false) (take (room - 5) body)) ≡ 5 + length (take (room - 5) body) = segment-length (segmentRole begun false) (take (room - 5) body) in
         rw q (omega arith, ih (drop (room - 5) body) (omega arith) (omega arith))
 
 pub layS-size : (B : ℕ) (xs : List (List ℕ)) → Every (λ x. least x ≤ B) xs → (room : ℕ) → room ≤ B → SizesOf B room (layS B room xs)

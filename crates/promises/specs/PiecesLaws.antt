@@ -12,7 +12,7 @@ use native.Mathlib.Omega.{arith}
 use native.Mathlib.Numerals.{add-one}
 use native.Mathlib.Nat.{not-suc-le-zero, le-refl}
 use borrow.Author.Tests.{leb-true}
-use Rattle.standard.specs.Pieces.{Block, lostBlock, held, Format, fixed, variable, spanned, Params, Kind, whole, first, middle, last, Piece, blank, broken, piece, lookV, lookS, lookF, isFill, mustFill, four, kindOf, sizedV, sizedS, onlyFillV, onlyFillS, lookIn, look, Token, part, bad, lost, afterPart, tokensAt, walk, pieces, inBlock, inBlocks, fromTail, ahead}
+use Rattle.standard.specs.Pieces.{Block, lostBlock, held, Format, fixed, variable, spanned, Params, Role, whole, first, middle, last, Piece, blank, broken, piece, lookV, lookS, lookF, isFill, mustFill, four, roleOf, sizedV, sizedS, onlyFillV, onlyFillS, lookIn, look, Token, part, bad, lost, afterPart, tokensAt, walk, pieces, inBlock, inBlocks, fromTail, ahead}
 use Rattle.promises.specs.Basics.{cond-elim, and-l, and-r}
 
 -- a piece takes a byte or more, and no more than there are
@@ -31,7 +31,7 @@ sizedV-sound R rest (some n) =
     (λ t. let h : 4 ≤ n = leb-true 4 n (search (and-l, and-r)) in (omega arith, leb-true n (length rest) (search (and-l, and-r))))
     (λ _. tt)
 
-sizedS-sound : (rest : List ℕ) (k : Option Kind) (n : Option ℕ) → Sound (length rest) (sizedS rest k n)
+sizedS-sound : (rest : List ℕ) (k : Option Role) (n : Option ℕ) → Sound (length rest) (sizedS rest k n)
 sizedS-sound rest none n = tt
 sizedS-sound rest (some k) none = tt
 sizedS-sound rest (some k) (some n) =
@@ -52,7 +52,7 @@ unfolding lookV lookS
 lookIn-sound fixed R bl o rest = lookF-sound R rest
 lookIn-sound variable R bl o rest = cond-elim (Sound (length rest)) (onlyFillV bl o rest) (λ _. mustFill-sound rest) (λ _. sizedV-sound R rest (four rest))
 lookIn-sound spanned R bl o rest =
-    cond-elim (Sound (length rest)) (onlyFillS rest) (λ _. mustFill-sound rest) (λ _. sizedS-sound rest (kindOf (getD rest 0 0)) (four (drop 1 rest)))
+    cond-elim (Sound (length rest)) (onlyFillS rest) (λ _. mustFill-sound rest) (λ _. sizedS-sound rest (roleOf (getD rest 0 0)) (four (drop 1 rest)))
 
 pub look-sound : (p : Params) (o : ℕ) (rest : List ℕ) → Sound (length rest) (look p o rest)
 unfolding look
@@ -100,7 +100,7 @@ pieces-eq p b o (x ∷ xs) =
     tokensAt-cong b o (x ∷ xs) _ _ (look p o (x ∷ xs)) (look-sound p o (x ∷ xs))
     (λ o′ r l. walk-enough (length xs) (length r) p b o′ r (omega arith) (le-refl (length r)))
 
-afterPart-length : (k : Kind) (b o n : ℕ) (rest : List ℕ) (more : List Token) → length more ≤ suc n → length (afterPart k b o rest more) ≤ suc n
+afterPart-length : (k : Role) (b o n : ℕ) (rest : List ℕ) (more : List Token) → length more ≤ suc n → length (afterPart k b o rest more) ≤ suc n
 afterPart-length whole b o n rest more h = h
 afterPart-length first b o n rest more h = cond-elim (λ (l : List Token). length l ≤ suc n) (isFill rest) (λ _. omega arith) (λ _. omega arith)
 afterPart-length middle b o n rest more h = cond-elim (λ (l : List Token). length l ≤ suc n) (isFill rest) (λ _. omega arith) (λ _. omega arith)
@@ -136,7 +136,7 @@ unfolding ahead
 next-ahead p bs b x xs e = ap (fromTail p (suc b) 0) (drop-tail b bs e) ∙ fromTail-start p (suc b) xs
 
 -- What stands behind a token is what stands ahead of the place that it leads to.
-abbrev pub Ends : Kind → Type 0
+abbrev pub Ends : Role → Type 0
 Ends whole = Unit {0}
 Ends first = ⊥
 Ends middle = ⊥

@@ -11,7 +11,7 @@ use native.Mathlib.Omega.{arith}
 use native.Mathlib.Nat.{zero-mod, add-mod-right}
 use borrow.Author.Tests.{lt-ltb, le-leb, eq-eqb, ltb-false, leb-true, ltb-true}
 use Rattle.standard.specs.Records.{start, Mode, plain, salvage, File, Met, took, gapped, ended, refused, State, fresh, marked, within, Move, deliver, carry, breach, meet, atLost, afterMove, answer, entering, step, aligned, inFile}
-use Rattle.standard.specs.Pieces.{Block, lostBlock, held, sizeOf, Format, fixed, variable, spanned, Params, Kind, Piece, blank, broken, piece, lookF, lookIn, look, Token, part, bad, lost, tokensAt, pieces, inBlock, inBlocks, fromTail, ahead}
+use Rattle.standard.specs.Pieces.{Block, lostBlock, held, sizeOf, Format, fixed, variable, spanned, Params, Role, Piece, blank, broken, piece, lookF, lookIn, look, Token, part, bad, lost, tokensAt, pieces, inBlock, inBlocks, fromTail, ahead}
 use Rattle.standard.specs.declared.Place.{Place}
 use Rattle.promises.specs.Basics.{cond-elim, and-l, and-r}
 use Rattle.promises.specs.Lists.{Every, every-append}
@@ -97,7 +97,7 @@ lookIn-stride fixed R bl o rest = lookF-stride R rest
 lookIn-stride variable R bl o rest = tt
 lookIn-stride spanned R bl o rest = tt
 
-aligned-next : (f : Format) (R o s : ℕ) (k : Kind) (body : List ℕ) → Stride f R (piece k body s) → aligned f R o ≡ true → aligned f R (o + s) ≡ true
+aligned-next : (f : Format) (R o s : ℕ) (k : Role) (body : List ℕ) → Stride f R (piece k body s) → aligned f R o ≡ true → aligned f R (o + s) ≡ true
 aligned-next fixed R o s k body e a = rw (e, add-mod-right) a
 aligned-next variable R o s k body e a = refl
 aligned-next spanned R o s k body e a = refl

@@ -13,7 +13,7 @@ use Rattle.standard.specs.Layout.{labelAt}
 use Rattle.standard.specs.Slots.{hasLabel}
 use Rattle.standard.specs.Judgement.{judged}
 use Rattle.standard.specs.Files.{extent, wrongAmong, blocksHeld, extentSize, isDefective, goodAmong, goodRecords, recordsToBlock, goodBefore, dataEndAtStart, dataEndInExtent, blockCount, isWrong, splitsBlock, openRefusal, blocksFrom, fileIn}
-use Rattle.standard.specs.Writing.{wrongLength, lengthsFrom, packed, writeRefusal, needed, imageWith}
+use Rattle.standard.specs.Writing.{wrongLength, lengthsFrom, packing, writeRefusal, needed, imageWith}
 use Rattle.standard.specs.declared.Geometry.{Geometry}
 use Rattle.standard.specs.declared.Checked.the-variants.{Passed}
 use Rattle.standard.specs.declared.Judged.the-variants.{Volume}
@@ -39,7 +39,7 @@ use Rattle.promises.specs.SettingLabel.{set-data}
 use Rattle.promises.specs.AcceptedWrite.{passing, takenBy, stored, label-range, slot-inside, taken-legal, taken-good, stored-whole}
 use Rattle.promises.specs.AlikeLabels.{Alike, f23, f29, f35, a42, a43, a45, known, format-same, record-same, params-same}
 use Rattle.promises.specs.WrittenImage.{unused, dataEnd, result, result-label}
-use Rattle.promises.specs.WrittenLabel.{old-rules, packing, new-unused, records-some, ends, new-end}
+use Rattle.promises.specs.WrittenLabel.{old-rules, packing-right, new-unused, records-some, ends, new-end}
 use Rattle.promises.specs.AcceptedAgain.{this-is-label}
 use Rattle.promises.specs.StoredBlocks.{Holds, holds-same, stored-holds, sizes-fitting, file-blocks}
 
@@ -66,7 +66,7 @@ module _ (image : List ℕ) (g : Geometry) (slot : ℕ) (bodies lengths : List �
   st = stored image g slot bodies lengths j w
 
   abbrev cs : List (List ℕ)
-  cs = packed h bodies lengths .contents
+  cs = packing h bodies lengths .contents
 
   alike : Alike h k
   alike = result-label image g slot bodies lengths j w
@@ -131,8 +131,8 @@ module _ (image : List ℕ) (g : Geometry) (slot : ℕ) (bodies lengths : List �
       rw (new-end image g slot bodies lengths j w, f29 h k alike, f35 h k alike, good-kept, m-same) (ends image g slot bodies lengths j w .whole)
 
   unused-none : (ltb 0 (unusedCount k) && eqb (blockCount g t k) 0) ≡ false
-  unfolding packed
-  unused-none = rw (new-unused image g slot bodies lengths j w, count-back) (go cs (packing image g slot bodies lengths j w .sized))
+  unfolding packing
+  unused-none = rw (new-unused image g slot bodies lengths j w, count-back) (go cs (packing-right image g slot bodies lengths j w .sized))
     where
       go : (ds : List (List ℕ)) → Sized (blockLength h) U ds → (ltb 0 U && eqb (length ds) 0) ≡ false
       go [] z = rw z
@@ -155,8 +155,8 @@ module _ (image : List ℕ) (g : Geometry) (slot : ℕ) (bodies lengths : List �
   enough-records = le-div-iff-mul-le (records-some image g slot bodies lengths j w) .0 (passing g image slot bodies lengths w .held)
 
   fitting : Every (λ c. length c ≤ recordsToBlock g h * g .P) cs
-  unfolding packed
-  fitting = go cs (packing image g slot bodies lengths j w .sized)
+  unfolding packing
+  fitting = go cs (packing-right image g slot bodies lengths j w .sized)
     where
       go : (ds : List (List ℕ)) → Sized (blockLength h) U ds → Every (λ c. length c ≤ recordsToBlock g h * g .P) ds
       go [] z = tt
@@ -180,7 +180,7 @@ module _ (image : List ℕ) (g : Geometry) (slot : ℕ) (bodies lengths : List �
   pub file-back : fileIn g t k ≡ fileOf (paramsOf h) cs
   unfolding fileIn fileOf
   file-back =
-      let b : blocksFrom g t k (length cs) (goodRecords g image h) ≡ map held cs = blocks-back cs (unfold packed in packing image g slot bodies lengths j w .sized) holds in
+      let b : blocksFrom g t k (length cs) (goodRecords g image h) ≡ map held cs = blocks-back cs (unfold packing in packing-right image g slot bodies lengths j w .sized) holds in
       rw (count-back, good-kept, b, params-same h k alike)
 
   -- WRITTEN AGAIN: the same writes are accepted and refused as before
@@ -195,8 +195,8 @@ module _ (image : List ℕ) (g : Geometry) (slot : ℕ) (bodies lengths : List �
   unfolding blocksHeld
   room-same = rw (good-kept, m-same)
 
-  packed-same : (b l : List ℕ) → packed k b l ≡ packed h b l
-  unfolding packed
+  packed-same : (b l : List ℕ) → packing k b l ≡ packing h b l
+  unfolding packing
   packed-same b l = rw (params-same h k alike, f23 h k alike)
 
   pub written-again : (b l : List ℕ) → writeRefusal g t slot b l ≡ writeRefusal g image slot b l

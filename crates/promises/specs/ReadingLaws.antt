@@ -8,18 +8,18 @@ use lib.ListN.{length, length-append}
 use native.Mathlib.Omega.{arith}
 use native.Mathlib.Nat.{not-suc-le-zero, le-of-suc-le-suc}
 use Rattle.standard.specs.Records.{end, Record, Mode, plain, salvage, File, State, fresh, marked, within, Move, deliver, carry, breach, over, meet, atLost, afterMove, answer, entering, step, Item, rec, gap, start, follow, readOn, enough, readAll, stateAfterGap, joinMove, joinLost, join, listed}
-use Rattle.standard.specs.Pieces.{Block, lostBlock, held, Format, fixed, variable, spanned, Params, Kind, whole, first, middle, last, Token, part, bad, lost, walk, pieces, inBlock, inBlocks, ahead}
+use Rattle.standard.specs.Pieces.{Block, lostBlock, held, Format, fixed, variable, spanned, Params, Role, whole, first, middle, last, Token, part, bad, lost, walk, pieces, inBlock, inBlocks, ahead}
 use Rattle.standard.specs.declared.Place.{Place}
 use Rattle.promises.specs.Basics.{cond-elim}
 use Rattle.promises.specs.PiecesLaws.{walk-length, fromTail-start, Ends, Chained, blocks-chained}
 
 -- only a whole or a last piece delivers
-abbrev Delivers : Kind → Move → Type 0
+abbrev Delivers : Role → Move → Type 0
 Delivers k (deliver body f) = Ends k
 Delivers k (carry st) = Unit {0}
 Delivers k breach = Unit {0}
 
-pub meet-delivers : (p : Params) (st : State) (k : Kind) (body : List ℕ) (b : ℕ) → Delivers k (meet p st k body b)
+pub meet-delivers : (p : Params) (st : State) (k : Role) (body : List ℕ) (b : ℕ) → Delivers k (meet p st k body b)
 meet-delivers p fresh whole body b = cond-elim (Delivers whole) (over p (length body)) (λ _. tt) (λ _. tt)
 meet-delivers p fresh first body b = cond-elim (Delivers first) (over p (length body)) (λ _. tt) (λ _. tt)
 meet-delivers p fresh middle body b = tt
@@ -53,7 +53,7 @@ one-more : (m : Mode) (f : File) (n : ℕ) (pl : Place) (ts : List Token) (st : 
 unfolding readOn step Onward
 one-more m f n pl ts st a s h = rw (a, s) h
 
-move-onward : (m : Mode) (f : File) (n b o e : ℕ) (ts : List Token) (k : Kind) (mv : Move) → Delivers k mv → (Ends k → ahead (f .params) (f .blocks) b e ≡ ts)
+move-onward : (m : Mode) (f : File) (n b o e : ℕ) (ts : List Token) (k : Role) (mv : Move) → Delivers k mv → (Ends k → ahead (f .params) (f .blocks) b e ≡ ts)
     → ((st : State) → Onward m f n ts st) → ((st : State) → Onward m f (suc n) ts st)
     → follow (afterMove mv b o e (λ st. answer m (f .params) ts st)) (λ pl. readOn (suc n) m f pl) ≡ joinMove mv b o (λ st. join m (f .params) ts st)
 unfolding Onward

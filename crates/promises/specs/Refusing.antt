@@ -14,7 +14,7 @@ use Rattle.standard.specs.Free.{freeCount}
 use Rattle.standard.specs.Files.{countList, countRefusal, countOr, counted, openList, openRefusal, fileIn}
 use Rattle.standard.specs.Records.{Mode, File, Met, took, gapped, ended, refused, step, inFile}
 use Rattle.standard.specs.Reading.{Reply, unanswered, delivered, replied, replyIn, opened, reply, laidOver, readAnswer, outputAfter}
-use Rattle.standard.specs.Writing.{Outcome, packed, writeList, writeRefusal, unless, outcome, imageWith, written, imageAfter}
+use Rattle.standard.specs.Writing.{Outcome, packing, writeList, writeRefusal, unless, outcome, imageWith, written, imageAfter}
 use Rattle.standard.specs.Layout.{labelAt}
 use Rattle.standard.specs.declared.Geometry.{Geometry}
 use Rattle.standard.specs.declared.Place.{Place}
@@ -83,7 +83,7 @@ replyOn v m image slot pl room = onVolume v unanswered (λ g. opened (openRefusa
 
 abbrev outcomeDone : Geometry → List ℕ → ℕ → List ℕ → List ℕ → Outcome
 outcomeDone g image slot bodies lengths =
-    let p = packed (labelAt g image slot) bodies lengths in
+    let p = packing (labelAt g image slot) bodies lengths in
     record { answer = Blocks (length (p .contents)); image = imageWith g image slot p }
 
 abbrev outcomeOn : Judged → List ℕ → ℕ → List ℕ → List ℕ → Outcome

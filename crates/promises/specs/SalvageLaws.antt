@@ -8,7 +8,7 @@ use lib.ListN.{length}
 use native.Mathlib.Omega.{arith}
 use native.Mathlib.Nat.{le-refl}
 use borrow.Author.Tests.{ne-eqb, eq-eqb}
-use Rattle.standard.specs.Pieces.{Block, lostBlock, held, Format, fixed, variable, spanned, Params, Kind, whole, first, middle, last, Token, part, bad, lost, pieces, inBlock, inBlocks}
+use Rattle.standard.specs.Pieces.{Block, lostBlock, held, Format, fixed, variable, spanned, Params, Role, whole, first, middle, last, Token, part, bad, lost, pieces, inBlock, inBlocks}
 use Rattle.standard.specs.Records.{plain, salvage, File, Record, State, fresh, marked, within, Move, deliver, carry, breach, over, meet, Item, rec, gap, end, no, refuse20, refuse21, readAll, stateAfterGap, joinMove, joinEnd, join, listed}
 use Rattle.standard.specs.declared.Refusal.{Refusal}
 use Rattle.standard.specs.Damage.{damage, damaged, intact, spared, endingIn, remains}
@@ -149,7 +149,7 @@ module _ (gone : ℕ → Bool) (p : Params) (b n : ℕ) (g : gone b ≡ false) (
         rw (q, due-gone gone b n r rs′ refl (spared-is gone b f m body false g e i)) (ih rs′ c)
 
   part-alike : (ts : List Token) → ((st st′ : State) → Rel gone b st st′ → Alike ts st st′)
-      → (body : List ℕ) (o e : ℕ) {st st′ : State} → Rel gone b st st′ → (k : Kind) → Alike (part k body b o e ∷ ts) st st′
+      → (body : List ℕ) (o e : ℕ) {st st′ : State} → Rel gone b st st′ → (k : Role) → Alike (part k body b o e ∷ ts) st st′
   unfolding Alike join intact
   part-alike ts ih body o e both whole rs h = deliver-alike ts o rs (over p (length body)) body b 0 (omega arith) refl (ih _ _ both) h
   part-alike ts ih body o e both first rs h =
@@ -196,7 +196,7 @@ BegunBy b (deliver body f) = f ≤ b
 BegunBy b (carry st) = Begun b st
 BegunBy b breach = Unit {0}
 
-pub meet-begun : (p : Params) (b : ℕ) (st : State) (k : Kind) (body : List ℕ) → Begun b st → BegunBy b (meet p st k body b)
+pub meet-begun : (p : Params) (b : ℕ) (st : State) (k : Role) (body : List ℕ) → Begun b st → BegunBy b (meet p st k body b)
 meet-begun p b fresh whole body h = cond-elim (BegunBy b) (over p (length body)) (λ _. tt) (λ _. le-refl b)
 meet-begun p b fresh first body h = cond-elim (BegunBy b) (over p (length body)) (λ _. tt) (λ _. le-refl b)
 meet-begun p b fresh middle body h = tt

@@ -14,7 +14,7 @@ use Rattle.standard.specs.Labels.{startOf, endOf}
 use Rattle.standard.specs.Judgement.{judged}
 use Rattle.standard.specs.Files.{goodRecords, recordsToBlock}
 use Rattle.standard.specs.Packing.{Packing}
-use Rattle.standard.specs.Writing.{needed, packed, writeRefusal, splice, filledTo, storeRecord, storeBlock, storeBlocks, unusedField, dataEndAfter, setLabel, imageWith, imageAfter}
+use Rattle.standard.specs.Writing.{needed, packing, writeRefusal, splice, filledTo, storeRecord, storeBlock, storeBlocks, unusedField, dataEndAfter, setLabel, imageWith, imageAfter}
 use Rattle.standard.specs.declared.Geometry.{Geometry}
 use Rattle.standard.specs.declared.Address.{Address}
 use Rattle.standard.specs.declared.Checked.the-variants.{Passed}
@@ -191,10 +191,10 @@ module _ (image : List ℕ) (g : Geometry) (slot : ℕ) (bodies lengths : List �
       omega (arith, label-room g slot (numbers-of image g j) (slot-inside image g slot bodies lengths j w), stored-whole image g slot bodies lengths j w)
 
   -- THE IMAGE AFTERWARDS IS THESE WRITES CARRIED OUT
-  pub write-carried : imageAfter image slot bodies lengths ≡ carriedOut (writesOf g image slot (packed label bodies lengths)) image
+  pub write-carried : imageAfter image slot bodies lengths ≡ carriedOut (writesOf g image slot (packing label bodies lengths)) image
   unfolding imageWith writesOf carriedOut
   write-carried =
-      let p = packed label bodies lengths in
+      let p = packing label bodies lengths in
       let e : Address = dataEndAfter g image label (needed label bodies lengths) in
       let data-writes = blocksWrites g (recordsToBlock g label) (p .contents) (goodRecords g image label) in
       let new : Write = record { offset = labelOffset g slot; bytes = newLabel label (p .U) e } in
@@ -297,20 +297,20 @@ module _ (image : List ℕ) (g : Geometry) (slot : ℕ) (bodies lengths : List �
   blocks = needed theLabel bodies lengths
 
   abbrev recordWrites : List Write
-  recordWrites = blocksWrites g (recordsToBlock g theLabel) (packed theLabel bodies lengths .contents) (goodRecords g image theLabel)
+  recordWrites = blocksWrites g (recordsToBlock g theLabel) (packing theLabel bodies lengths .contents) (goodRecords g image theLabel)
 
   abbrev labelWrite : Write
-  labelWrite = record { offset = labelOffset g slot; bytes = newLabel theLabel (packed theLabel bodies lengths .U) (dataEndAfter g image theLabel blocks) }
+  labelWrite = record { offset = labelOffset g slot; bytes = newLabel theLabel (packing theLabel bodies lengths .U) (dataEndAfter g image theLabel blocks) }
 
   -- one for each good record that the blocks take, in order, and then the label's
-  pub writes-are : writesOf g image slot (packed theLabel bodies lengths) ≡ recordWrites ++ (labelWrite ∷ [])
+  pub writes-are : writesOf g image slot (packing theLabel bodies lengths) ≡ recordWrites ++ (labelWrite ∷ [])
   unfolding writesOf
   writes-are = refl
 
   pub writes-follow : Follows g (takenBy g image theLabel blocks) recordWrites
-  writes-follow = follows-blocks g (recordsToBlock g theLabel) (packed theLabel bodies lengths .contents) (goodRecords g image theLabel)
+  writes-follow = follows-blocks g (recordsToBlock g theLabel) (packing theLabel bodies lengths .contents) (goodRecords g image theLabel)
 
-  pub writes-count : length (writesOf g image slot (packed theLabel bodies lengths)) ≡ blocks * recordsToBlock g theLabel + 1
+  pub writes-count : length (writesOf g image slot (packing theLabel bodies lengths)) ≡ blocks * recordsToBlock g theLabel + 1
   writes-count =
       let n = length-take-le (blocks * recordsToBlock g theLabel) (goodRecords g image theLabel) (enough-records image g slot bodies lengths j w) in
       let c = follows-count g (takenBy g image theLabel blocks) recordWrites writes-follow in
@@ -326,7 +326,7 @@ module _ (image : List ℕ) (g : Geometry) (slot : ℕ) (bodies lengths : List �
   label-fits : (length (labelWrite .bytes) ≡ 128) × (labelOffset g slot + 128 ≤ indexSectors g * 129)
   unfolding labelAt imageLength
   label-fits =
-      let U = packed theLabel bodies lengths .U in
+      let U = packing theLabel bodies lengths .U in
       let e = dataEndAfter g image theLabel blocks in
       let room = label-in-index in
       let o = labelOffset g slot in
@@ -337,7 +337,7 @@ module _ (image : List ℕ) (g : Geometry) (slot : ℕ) (bodies lengths : List �
       let l₂ = splice-length 74 (fiveBytes e) (splice 57 (unusedField U) (take 128 (drop o image))) (omega arith) in
       (l₂ ∙ l₁ ∙ lh, room)
 
-  pub writes-inside : EachWrite (λ u. u .offset + length (u .bytes) ≤ length image) (writesOf g image slot (packed theLabel bodies lengths))
+  pub writes-inside : EachWrite (λ u. u .offset + length (u .bytes) ≤ length image) (writesOf g image slot (packing theLabel bodies lengths))
   unfolding writesOf imageLength bodyOffset
   writes-inside =
       let l = image-length image g j in
@@ -347,7 +347,7 @@ module _ (image : List ℕ) (g : Geometry) (slot : ℕ) (bodies lengths : List �
       (λ a u h o n. omega (arith, address-room g a h)) (takenBy g image theLabel blocks) recordWrites (taken-legal image g slot bodies lengths j w) writes-follow)
       (omega (arith, f .0, f .1), tt)
 
-  pub writes-apart : Apart (writesOf g image slot (packed theLabel bodies lengths))
+  pub writes-apart : Apart (writesOf g image slot (packing theLabel bodies lengths))
   unfolding writesOf
   writes-apart =
       let lo = index g (startOf theLabel) in

@@ -6,7 +6,7 @@ use mathlib.Core.Bool.{Bool, true, false, cond}
 use mathlib.Core.List.{List, [], _∷_, _++_}
 use lib.ListN.{drop}
 use lib.Seq.{drop-drop}
-use Rattle.standard.specs.Pieces.{Block, lostBlock, held, Params, Kind, whole, first, middle, last, Piece, blank, broken, piece, isFill, look, Token, bad, tokensAt, pieces, inBlock, inBlocks, ahead}
+use Rattle.standard.specs.Pieces.{Block, lostBlock, held, Params, Role, whole, first, middle, last, Piece, blank, broken, piece, isFill, look, Token, bad, tokensAt, pieces, inBlock, inBlocks, ahead}
 use Rattle.standard.specs.Records.{Mode, Met, refused, refuse21, State, Move, deliver, carry, breach, meet, atEnd, atLost, afterMove, answer}
 use Rattle.promises.specs.PiecesLaws.{pieces-eq, held-ahead, next-ahead}
 
@@ -15,7 +15,7 @@ abbrev pub reading : Mode → Params → List Block → ℕ → ℕ → State �
 reading m p bs b o st = answer m p (ahead p bs b o) st
 
 -- behind a piece: a whole or a last is followed by what stands there; after a first or a middle the rest is fill, and reading goes on in the next block
-abbrev pub behind : Mode → Params → List Block → ℕ → ℕ → List ℕ → Kind → State → Met
+abbrev pub behind : Mode → Params → List Block → ℕ → ℕ → List ℕ → Role → State → Met
 behind m p bs b o c whole st = reading m p bs b o st
 behind m p bs b o c first st = cond (isFill (drop o c)) (reading m p bs (suc b) 0 st) (refused (refuse21 b o))
 behind m p bs b o c middle st = cond (isFill (drop o c)) (reading m p bs (suc b) 0 st) (refused (refuse21 b o))

@@ -8,7 +8,7 @@ use mathlib.Core.List.{List, [], _∷_}
 use lib.ListN.{length, drop}
 use lib.Dec.{leb}
 use native.Mathlib.Omega.{arith}
-use Rattle.standard.specs.Pieces.{Block, lostBlock, held, Format, fixed, variable, spanned, Params, Kind, whole, first, middle, last, Piece, blank, broken, piece, isFill, four, sizedV, lookF, onlyFillV, lookV, lookIn, look, Token, part, bad, lost, afterPart, tokensAt, walk, pieces, inBlock, inBlocks}
+use Rattle.standard.specs.Pieces.{Block, lostBlock, held, Format, fixed, variable, spanned, Params, Role, whole, first, middle, last, Piece, blank, broken, piece, isFill, four, sizedV, lookF, onlyFillV, lookV, lookIn, look, Token, part, bad, lost, afterPart, tokensAt, walk, pieces, inBlock, inBlocks}
 use Rattle.promises.specs.Basics.{cond-elim}
 use Rattle.promises.specs.Lists.{Every, every-append}
 
@@ -18,7 +18,7 @@ OnPiece Q b o broken = Unit {0}
 OnPiece Q b o (piece k body s) = Q (part k body b o (o + s))
 
 module _ (Q : Token → Type 0) (b : ℕ) (hb : (o : ℕ) → Q (bad b o)) where
-  pub afterPart-every : (k : Kind) (o : ℕ) (rest : List ℕ) (more : List Token) → Every Q more → Every Q (afterPart k b o rest more)
+  pub afterPart-every : (k : Role) (o : ℕ) (rest : List ℕ) (more : List Token) → Every Q more → Every Q (afterPart k b o rest more)
   afterPart-every whole o rest more h = h
   afterPart-every first o rest more h = cond-elim (Every Q) (isFill rest) (λ _. tt) (λ _. (hb o, tt))
   afterPart-every middle o rest more h = cond-elim (Every Q) (isFill rest) (λ _. tt) (λ _. (hb o, tt))

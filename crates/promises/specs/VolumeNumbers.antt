@@ -18,7 +18,7 @@ use Rattle.standard.specs.declared.Judged.the-variants.{Volume}
 use Rattle.promises.specs.Basics.{true-not-false, and-l, and-r}
 use Rattle.promises.specs.Tiling.{size-index, sector-in-image}
 use Rattle.promises.specs.Judging.{not-given, rows-each, accepted}
-use Rattle.standard.specs.Defects.{secondDefect, ermapRules, defect1, defect2, isCylinder, cylinderIn}
+use Rattle.standard.specs.Defects.{ermapRule11, ermapRules, defect1, defect2, isCylinder, cylinderIn}
 
 pub record Numbers (g : Geometry) : Type 0 where
   pub cylinders : g .L ≤ 96
@@ -72,8 +72,8 @@ numbers-of image g j =
     subst Numbers (a .numbers) (of-rules image z)
 
 -- the second defective cylinder is behind the first
-second-behind : (L : ℕ) (e : List ℕ) → secondDefect L e ≡ true → 0 < defect2 e → defect1 e < defect2 e
-unfolding secondDefect
+second-behind : (L : ℕ) (e : List ℕ) → ermapRule11 L e ≡ true → 0 < defect2 e → defect1 e < defect2 e
+unfolding ermapRule11
 second-behind L e h p = go (spaces (field e 11 13)) (spaces (field e 7 9)) h p
   where
     go : (t u : Bool)

@@ -11,9 +11,9 @@ use lib.Dec.{leb, ltb, eqb}
 use native.Mathlib.Omega.{arith}
 use native.Mathlib.Nat.{not-suc-le-zero, le-refl}
 use borrow.Author.Tests.{le-leb, lt-leb, leb-true, leb-false, ne-eqb, lt-ltb, ltb-true}
-use Rattle.standard.specs.Pieces.{held, fixed, variable, spanned, Params, Kind, whole, first, middle, last, blank, piece, isFill, number4, four, kindOf, lookF, lookV, lookS, look, Token, part, afterPart, pieces, inBlock, inBlocks}
+use Rattle.standard.specs.Pieces.{held, fixed, variable, spanned, Params, Role, whole, first, middle, last, blank, piece, isFill, number4, four, roleOf, lookF, lookV, lookS, look, Token, part, afterPart, pieces, inBlock, inBlocks}
 use Rattle.standard.specs.Records.{plain, State, fresh, within, over, meet, Item, readAll, joinMove, join, listed}
-use Rattle.standard.specs.Packing.{Laid, then, thenNext, fill, kindByte, recordV, segment, lay, layOne, segmentKind, spread, least, layS, pack, fileOf}
+use Rattle.standard.specs.Packing.{Laid, then, thenNext, fill, roleByte, recordV, segment, lay, layOne, segmentRole, spread, least, layS, pack, fileOf}
 use Rattle.standard.specs.Characters.{digitValue, padded}
 use Rattle.promises.specs.Lists.{Every}
 use Rattle.promises.specs.PiecesLaws.{look-nil, pieces-eq}
@@ -28,33 +28,33 @@ four-digits n more h = rw (digit-is (n / 10 / 10 / 10), digit-is (n / 10 / 10), 
 
 -- ---- what `look` finds where something was written
 
-kindOf-byte : (k : Kind) → kindOf (kindByte k) ≡ some k
-unfolding kindOf
-kindOf-byte whole = refl
-kindOf-byte first = refl
-kindOf-byte middle = refl
-kindOf-byte last = refl
+roleOf-byte : (k : Role) → roleOf (roleByte k) ≡ some k
+unfolding roleOf
+roleOf-byte whole = refl
+roleOf-byte first = refl
+roleOf-byte middle = refl
+roleOf-byte last = refl
 
-kindByte-pos : (k : Kind) → eqb (kindByte k) 0 ≡ false
-kindByte-pos whole = refl
-kindByte-pos first = refl
-kindByte-pos middle = refl
-kindByte-pos last = refl
+roleByte-pos : (k : Role) → eqb (roleByte k) 0 ≡ false
+roleByte-pos whole = refl
+roleByte-pos first = refl
+roleByte-pos middle = refl
+roleByte-pos last = refl
 
 fill-is : (n : ℕ) → isFill (fill n) ≡ true
 fill-is zero = refl
 fill-is (suc n) = fill-is n
 
 -- The control word and the body of a segment, cut out of what begins with it
-lookS-segment : (k : Kind) (body more : List ℕ) → 5 + length body < 10000 → lookS (segment k body ++ more) ≡ piece k body (5 + length body)
+lookS-segment : (k : Role) (body more : List ℕ) → 5 + length body < 10000 → lookS (segment k body ++ more) ≡ piece k body (5 + length body)
 unfolding segment padded lookS
 lookS-segment k body more h =
     let n : ℕ = 5 + length body in
     let l : length (body ++ more) ≡ length body + length more = length-append body more in
     rw (
       lt-leb (suc (suc (suc (suc (suc (suc (length (body ++ more)))))))) 5 (omega arith),
-      kindByte-pos k,
-      kindOf-byte k,
+      roleByte-pos k,
+      roleOf-byte k,
       four-digits n (body ++ more) h,
       le-leb 5 n (omega arith),
       le-leb n (suc (suc (suc (suc (suc (length (body ++ more))))))) (omega arith),
@@ -74,11 +74,11 @@ laidTokens p b o l = pieces p b o (l .here) ++ inBlocks p (suc b) (map held (l .
 abbrev S : ℕ → Bool → Params
 S R bl = record { format = spanned; R = R; blocked = bl }
 
-pub segment-length : (k : Kind) (body : List ℕ) → length (segment k body) ≡ 5 + length body
+pub segment-length : (k : Role) (body : List ℕ) → length (segment k body) ≡ 5 + length body
 unfolding segment padded
 segment-length k body = omega arith
 
-segment-pieces : (R : ℕ) (bl : Bool) (b o : ℕ) (k : Kind) (body more : List ℕ) → 5 + length body < 10000
+segment-pieces : (R : ℕ) (bl : Bool) (b o : ℕ) (k : Role) (body more : List ℕ) → 5 + length body < 10000
     → pieces (S R bl) b o (segment k body ++ more)
     ≡ part k body b o (o + (5 + length body)) ∷ afterPart k b (o + (5 + length body)) more (pieces (S R bl) b (o + (5 + length body)) more)
 unfolding look
@@ -103,16 +103,16 @@ data Stands : Bool → State → List ℕ → Type 0 where
 
 module _ (R : ℕ) (bl : Bool) (b o : ℕ) (more : State → List Item) where
   put-end : (begun : Bool) (st : State) (acc body : List ℕ) (xs : List (List ℕ)) → Stands begun st acc → over (S R bl) (length (acc ++ body)) ≡ false
-      → Reads (more fresh) xs → Reads (joinMove (meet (S R bl) st (segmentKind begun true) body b) b o more) ((acc ++ body) ∷ xs)
+      → Reads (more fresh) xs → Reads (joinMove (meet (S R bl) st (segmentRole begun true) body b) b o more) ((acc ++ body) ∷ xs)
   put-end begun st acc body xs idle e h = rw e (reads-cons (record { body = body; firstBlock = b; lastBlock = b }) h)
   put-end begun st acc body xs (inside {acc = a} {f = f}) e h = rw e (reads-cons (record { body = a ++ body; firstBlock = f; lastBlock = b }) h)
 
   put-part : (begun : Bool) (st : State) (acc body : List ℕ) (ys : List (List ℕ)) → Stands begun st acc → over (S R bl) (length (acc ++ body)) ≡ false
-      → ((st₁ : State) → Stands true st₁ (acc ++ body) → Reads (more st₁) ys) → Reads (joinMove (meet (S R bl) st (segmentKind begun false) body b) b o more) ys
+      → ((st₁ : State) → Stands true st₁ (acc ++ body) → Reads (more st₁) ys) → Reads (joinMove (meet (S R bl) st (segmentRole begun false) body b) b o more) ys
   put-part begun st acc body xs idle e h = rw e (h (within body b) inside)
   put-part begun st acc body xs (inside {acc = a} {f = f}) e h = rw e (h (within (a ++ body) f) inside)
 
-cut-alone : (R : ℕ) (bl : Bool) (b o : ℕ) (k : Kind) (body : List ℕ) → 5 + length body < 10000
+cut-alone : (R : ℕ) (bl : Bool) (b o : ℕ) (k : Role) (body : List ℕ) → 5 + length body < 10000
     → pieces (S R bl) b o (segment k body) ≡ part k body b o (o + (5 + length body)) ∷ afterPart k b (o + (5 + length body)) [] (pieces (S R bl) b (o + (5 + length body)) [])
 cut-alone R bl b o k body h = ap (pieces (S R bl) b o) (sym (append-nil (segment k body))) ∙ segment-pieces R bl b o k body [] h
 
@@ -122,7 +122,7 @@ ReadsFrom R bl b o l st xs = Reads (join plain (S R bl) (laidTokens (S R bl) b o
 module _ (R : ℕ) (bl : Bool) (b o : ℕ) (l : Laid) where
   end-reads : (begun : Bool) (body : List ℕ) (xs : List (List ℕ)) (st : State) (acc : List ℕ) → Stands begun st acc → 5 + length body < 10000
       → over (S R bl) (length (acc ++ body)) ≡ false → ((o′ : ℕ) → ReadsFrom R bl b o′ l fresh xs)
-      → ReadsFrom R bl b o (then (segment (segmentKind begun true) body) l) st ((acc ++ body) ∷ xs)
+      → ReadsFrom R bl b o (then (segment (segmentRole begun true) body) l) st ((acc ++ body) ∷ xs)
   unfolding ReadsFrom laidTokens join
   end-reads begun body xs st acc idle h v k =
       rw (segment-pieces R bl b o whole body (l .here) h) (put-end R bl b o _ false fresh [] body xs idle v (k (o + (5 + length body))))
@@ -131,7 +131,7 @@ module _ (R : ℕ) (bl : Bool) (b o : ℕ) (l : Laid) where
 
   part-reads : (begun : Bool) (body : List ℕ) (ys : List (List ℕ)) (st : State) (acc : List ℕ) → Stands begun st acc → 5 + length body < 10000
       → over (S R bl) (length (acc ++ body)) ≡ false → ((st₁ : State) → Stands true st₁ (acc ++ body) → ReadsFrom R bl (suc b) 0 l st₁ ys)
-      → ReadsFrom R bl b o (thenNext (segment (segmentKind begun false) body) l) st ys
+      → ReadsFrom R bl b o (thenNext (segment (segmentRole begun false) body) l) st ys
   unfolding ReadsFrom laidTokens join inBlocks inBlock
   part-reads begun body ys st acc idle h v k = rw (cut-alone R bl b o first body h) (put-part R bl b o _ false fresh [] body ys idle v k)
   part-reads begun body ys st acc (inside {acc = a} {f = f}) h v k =

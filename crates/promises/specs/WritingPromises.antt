@@ -8,7 +8,7 @@ use lib.ListN.{length, getD, drop, length-drop, take-append-drop}
 use lib.Seq.{length-take-le}
 use native.Mathlib.Omega.{arith}
 use Rattle.standard.specs.Files.{goodRecords, recordsToBlock, blockCount, countRefusal, counted, openRefusal, fileIn, fileAt}
-use Rattle.standard.specs.Writing.{imageWith, total, parted, needed, packed, writeRefusal, unusedField, dataEndAfter, Outcome, outcome, written, imageAfter}
+use Rattle.standard.specs.Writing.{imageWith, total, parted, needed, packing, writeRefusal, unusedField, dataEndAfter, Outcome, outcome, written, imageAfter}
 use Rattle.standard.specs.Characters.{field}
 use Rattle.standard.specs.Layout.{kindOffset, slotCount, labelOffset, labelAt}
 use Rattle.standard.specs.Addresses.{ordinal, fiveBytes}
@@ -44,7 +44,7 @@ use Rattle.promises.specs.Storing.{blocks-outside}
 use Rattle.promises.specs.SettingLabel.{set-outside}
 use Rattle.promises.specs.AcceptedWrite.{passing, outcome-is, takenBy, stored, slot-inside, taken-legal, stored-whole, after-is}
 use Rattle.promises.specs.WrittenImage.{result, result-whole, result-unused, result-end}
-use Rattle.promises.specs.WrittenLabel.{packing}
+use Rattle.promises.specs.WrittenLabel.{packing-right}
 use Rattle.promises.specs.AcceptedAgain.{other-sector, views, again}
 use Rattle.promises.specs.ReadBack.{count-back, opens-back, file-back, written-again}
 use Rattle.promises.specs.OtherFiles.{other-same}
@@ -115,9 +115,9 @@ module _ (image : List ℕ) (g : Geometry) (slot : ℕ) (bodies lengths : List �
   unfolding imageWith
   bytes-stay i h a b =
       ap (λ (s : List ℕ). getD s i 0) after-t
-      ∙ (set-outside g (numbers-of image g j) slot (slot-inside image g slot bodies lengths j w) (packed label bodies lengths .U) (dataEndAfter g image label blocks) (stored image g slot bodies lengths j w)
+      ∙ (set-outside g (numbers-of image g j) slot (slot-inside image g slot bodies lengths j w) (packing label bodies lengths .U) (dataEndAfter g image label blocks) (stored image g slot bodies lengths j w)
       (stored-whole image g slot bodies lengths j w) i a b
-      ∙ blocks-outside g (recordsToBlock g label) (packed label bodies lengths .contents) (goodRecords g image label) image (image-length image g j) i
+      ∙ blocks-outside g (recordsToBlock g label) (packing label bodies lengths .contents) (goodRecords g image label) image (image-length image g j) i
       (every-both (Legal g) (λ x. Outside i (kindOffset g (ordinal g x)) (g .P + 1)) (takenBy g image label blocks) (taken-legal image g slot bodies lengths j w) h))
 
   -- 2. ACCEPTED AGAIN
@@ -125,7 +125,7 @@ module _ (image : List ℕ) (g : Geometry) (slot : ℕ) (bodies lengths : List �
   accepted-still = ap judged after-t ∙ judged-from t g (again image g slot bodies lengths j w)
 
   -- 3. THE READ-BACK
-  pub unused-set : field (labelAt g after slot) 58 62 ≡ unusedField (packed label bodies lengths .U)
+  pub unused-set : field (labelAt g after slot) 58 62 ≡ unusedField (packing label bodies lengths .U)
   unused-set = ap (λ (s : List ℕ). field (labelAt g s slot) 58 62) after-t ∙ result-unused image g slot bodies lengths j w
 
   pub end-set : field (labelAt g after slot) 75 79 ≡ fiveBytes (dataEndAfter g image label blocks)
@@ -141,13 +141,13 @@ module _ (image : List ℕ) (g : Geometry) (slot : ℕ) (bodies lengths : List �
       ap (λ (s : List ℕ). blockCount g s (labelAt g s slot)) after-t ∙ count-back image g slot bodies lengths j w in
       rw accepted-still (rw (open-counts g after slot opens, c))
 
-  pub file-packed : fileAt after slot ≡ fileOf (paramsOf label) (packed label bodies lengths .contents)
+  pub file-packed : fileAt after slot ≡ fileOf (paramsOf label) (packing label bodies lengths .contents)
   file-packed =
       file-at after g slot accepted-still ∙ ap (λ (s : List ℕ). fileIn g s (labelAt g s slot)) after-t ∙ file-back image g slot bodies lengths j w
 
   pub reads : Reads (readAll plain (fileAt after slot)) (parted bodies lengths)
-  unfolding packed
-  reads = rw file-packed (packing image g slot bodies lengths j w .reads)
+  unfolding packing
+  reads = rw file-packed (packing-right image g slot bodies lengths j w .reads)
 
   pub salvages : Reads (readAll salvage (fileAt after slot)) (parted bodies lengths)
   salvages = rw (file-packed, salvage-alike) (rw file-packed at reads)

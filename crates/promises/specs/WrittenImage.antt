@@ -13,7 +13,7 @@ use Rattle.standard.specs.Layout.{indexSectors, kindAt, slotCount, slotOrdinal,
 use Rattle.standard.specs.Addresses.{ordinal, fiveBytes}
 use Rattle.standard.specs.Judgement.{judged, legalKind}
 use Rattle.standard.specs.Files.{goodRecords, recordsToBlock}
-use Rattle.standard.specs.Writing.{needed, packed, writeRefusal, dataEndAfter, imageWith, unusedField}
+use Rattle.standard.specs.Writing.{needed, packing, writeRefusal, dataEndAfter, imageWith, unusedField}
 use Rattle.standard.specs.declared.Geometry.{Geometry}
 use Rattle.standard.specs.declared.Address.{Address}
 use Rattle.standard.specs.declared.Checked.the-variants.{Passed}
@@ -49,13 +49,13 @@ module _ (image : List ℕ) (g : Geometry) (slot : ℕ) (bodies lengths : List �
   old = labelAt g image slot
 
   abbrev pub unused : ℕ
-  unused = packed (labelAt g image slot) bodies lengths .U
+  unused = packing (labelAt g image slot) bodies lengths .U
 
   abbrev pub dataEnd : Address
   dataEnd = dataEndAfter g image (labelAt g image slot) (needed (labelAt g image slot) bodies lengths)
 
   abbrev pub result : List ℕ
-  result = imageWith g image slot (packed (labelAt g image slot) bodies lengths)
+  result = imageWith g image slot (packing (labelAt g image slot) bodies lengths)
 
   abbrev st : List ℕ
   st = stored image g slot bodies lengths j w
@@ -75,7 +75,7 @@ module _ (image : List ℕ) (g : Geometry) (slot : ℕ) (bodies lengths : List �
   -- every sector that is not taken and not this label's
   stored-sector : (n : ℕ) → Every (NotOf g n) (takenBy g image old (needed old bodies lengths)) → sectorAt g image n ≡ sectorAt g st n
   stored-sector n h =
-      blocks-other g image (image-length image g j) n (recordsToBlock g old) (packed old bodies lengths .contents) (goodRecords g image old) h
+      blocks-other g image (image-length image g j) n (recordsToBlock g old) (packing old bodies lengths .contents) (goodRecords g image old) h
 
   pub result-sector : (n : ℕ) → Every (NotOf g n) (takenBy g image old (needed old bodies lengths)) → (n ≡ slotOrdinal slot → ⊥)
       → sectorAt g image n ≡ sectorAt g result n
@@ -139,7 +139,7 @@ module _ (image : List ℕ) (g : Geometry) (slot : ℕ) (bodies lengths : List �
   pub result-legal : (n : ℕ) → legalKind g image n ≡ true → legalKind g result n ≡ true
   unfolding imageWith
   result-legal n h =
-      let b = blocks-legal g n (recordsToBlock g old) (packed old bodies lengths .contents) (goodRecords g image old) image
+      let b = blocks-legal g n (recordsToBlock g old) (packing old bodies lengths .contents) (goodRecords g image old) image
       (taken-legal image g slot bodies lengths j w) (image-length image g j) h in
       either (eq-or-not n (slotOrdinal slot))
       (λ (e : n ≡ slotOrdinal slot).

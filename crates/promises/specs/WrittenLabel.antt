@@ -14,7 +14,7 @@ use Rattle.standard.specs.Addresses.{index, before, addressIn, isDataEnd, fiveB
 use Rattle.standard.specs.Labels.{formatOf, isFixed, blockLength, recordLength, unusedCount, isBlocked, startOf, endOf, dataEndOf, rule23, rule29, rule40, rule54, rule63, rule58, rule75, labelFault}
 use Rattle.standard.specs.Judgement.{judged}
 use Rattle.standard.specs.Files.{goodRecords, recordsToBlock, blocksHeld}
-use Rattle.standard.specs.Writing.{parted, needed, packed, writeRefusal, dataEndAfter}
+use Rattle.standard.specs.Writing.{parted, needed, packing, writeRefusal, dataEndAfter}
 use Rattle.standard.specs.declared.Geometry.{Geometry}
 use Rattle.standard.specs.declared.Address.{Address}
 use Rattle.standard.specs.declared.Checked.the-variants.{Passed}
@@ -55,14 +55,14 @@ module _ (image : List ℕ) (g : Geometry) (slot : ℕ) (bodies lengths : List �
   pub old-rules : Rules g h
   old-rules = rules g h old-right (passing g image slot bodies lengths w .known)
 
-  pub packing : Right (formatOf h) (recordLength h) (isBlocked h) (blockLength h) (parted bodies lengths)
-  packing =
+  pub packing-right : Right (formatOf h) (recordLength h) (isBlocked h) (blockLength h) (parted bodies lengths)
+  packing-right =
       let p = passing g image slot bodies lengths w in
       packed-right g h bodies lengths old-rules (p .fits) (p .sum)
 
   unused-below : U < blockLength h
-  unfolding packed
-  unused-below = packing .below
+  unfolding packing
+  unused-below = packing-right .below
 
   block-few : blockLength h < 100000
   block-few =
@@ -122,10 +122,10 @@ module _ (image : List ℕ) (g : Geometry) (slot : ℕ) (bodies lengths : List �
     where
       unblocked : (t : Bool) → isBlocked h ≡ t → (not (not t) || eqb U 0) ≡ true
       unblocked true q = refl
-      unblocked false q = eq-eqb U 0 (unfold packed in packing .unblocked q)
+      unblocked false q = eq-eqb U 0 (unfold packing in packing-right .unblocked q)
 
       multiple : (t : Bool) → isFixed h ≡ t → (not t || eqb (U % recordLength h) 0) ≡ true
-      multiple true q = eq-eqb (U % recordLength h) 0 (unfold packed in packing .multiple (fixed-format h q))
+      multiple true q = eq-eqb (U % recordLength h) 0 (unfold packing in packing-right .multiple (fixed-format h q))
       multiple false q = refl
 
   new75 : rule75 g k ≡ true

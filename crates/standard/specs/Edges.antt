@@ -11,7 +11,7 @@ use Rattle.standard.specs.Refusals.{lowestFault}
 use Rattle.standard.specs.Addresses.{fiveDigits, addressIn, legal, index, before, pastLast, isAddress, isDataEnd, fiveBytes}
 use Rattle.standard.specs.Labels.{knownLevel, anotherLevel, recordLength, unusedCount, rule44, rule6, rule29, rule35, rule40, rule23, rule63, rule41, rule42, rule43, rule45, rule46, spacesOrDate, rule48, rule67, rule54, rule58, rule64, rule73, rule75, hdr1Rules, labelFault}
 use Rattle.standard.specs.Judgement.{overlap}
-use Rattle.standard.specs.Pieces.{Block, lostBlock, held, fixed, variable, spanned, number4, kindOf, lookF, lookV, lookS, look, walk, pieces, inBlock, inBlocks, ahead}
+use Rattle.standard.specs.Pieces.{Block, lostBlock, held, fixed, variable, spanned, number4, roleOf, lookF, lookV, lookS, look, walk, pieces, inBlock, inBlocks, ahead}
 use Rattle.standard.specs.Records.{plain, salvage, File, Record, took, ended, refused, refuse20, refuse21, refuse22, answer, step, rec, gap, end, no, enough, readOn, readAll}
 use Rattle.standard.specs.Packing.{Packing, segment, spread, layS, pack}
 use Rattle.standard.specs.Writing.{unusedField}
@@ -79,7 +79,7 @@ pub edges-S :
     -- 22 "file ends after a 1 or 2 not dropped", in salvage too
     × (readAll plain (ofS 0 (text "10007AB" 0 ∷ [])) ≡ no refuse22 ∷ [])
     × (readAll salvage (ofS 0 (text "10007AB" 0 ∷ [])) ≡ no refuse22 ∷ [])
-unfolding isDigit digitValue number4 kindOf lookS look walk pieces inBlock inBlocks ahead answer step enough readOn readAll
+unfolding isDigit digitValue number4 roleOf lookS look walk pieces inBlock inBlocks ahead answer step enough readOn readAll
 edges-S = (refl, refl, refl, refl, refl, refl, refl, refl)
 
 pub edges-gap :
@@ -99,7 +99,7 @@ pub edges-gap :
     × (step salvage (ofS 0 (lostBlock 11 ∷ text "30007AB00005" 0 ∷ [])) (place 1 0 false) ≡ refused (refuse21 1 0))
     × (step plain (ofS 0 (lostBlock 11 ∷ text "30007AB00005" 0 ∷ [])) (place 1 0 true) ≡ refused (refuse21 1 0))
     × (step salvage (ofS 0 (text "00006A" 0 ∷ text "30007AB" 0 ∷ [])) (place 0 6 true) ≡ refused (refuse21 1 0))
-unfolding isDigit digitValue number4 kindOf lookS look walk pieces inBlock inBlocks ahead answer step enough readOn readAll
+unfolding isDigit digitValue number4 roleOf lookS look walk pieces inBlock inBlocks ahead answer step enough readOn readAll
 edges-gap = (refl, refl, refl, refl, refl, refl, refl, refl, refl, refl)
 
 pub edges-F :

@@ -9,7 +9,7 @@ use lib.Dec.{eqb}
 use Rattle.standard.specs.Characters.{bytes, isDigit, digitValue, padded}
 use Rattle.standard.specs.Defects.{skipOne, physical}
 use Rattle.standard.specs.Addresses.{addressIn, stepped}
-use Rattle.standard.specs.Pieces.{variable, spanned, Params, number4, kindOf, lookV, lookS, look, walk, pieces, inBlock, inBlocks, ahead}
+use Rattle.standard.specs.Pieces.{variable, spanned, Params, number4, roleOf, lookV, lookS, look, walk, pieces, inBlock, inBlocks, ahead}
 use Rattle.standard.specs.Records.{salvage, Item, rec, gap, end, answer, step, enough, readOn, readAll}
 use Rattle.standard.specs.Files.{addressesFrom}
 use Rattle.standard.specs.Packing.{Packing, recordV, segment, lay, layOne, spread, layS, pack, fileOf}
@@ -83,5 +83,5 @@ pub examples :
     × (salvaged written9 0 ≡ gap 0 ∷ record9 (bytes "CCC") 2 2 ∷ end ∷ [])
     -- "12. S, B=20, bodies 20, 20, middle block of three lost: one gap only."
     × ((length (written12 .contents) ≡ 3) × (salvaged written12 1 ≡ gap 1 ∷ end ∷ []))
-unfolding isDigit digitValue padded number4 kindOf lookV lookS addressIn stepped skipOne physical addressesFrom nextDataEnd recordV segment lay layOne spread layS pack fileOf damage damaged look walk pieces inBlock inBlocks ahead answer step enough readOn readAll
+unfolding isDigit digitValue padded number4 roleOf lookV lookS addressIn stepped skipOne physical addressesFrom nextDataEnd recordV segment lay layOne spread layS pack fileOf damage damaged look walk pieces inBlock inBlocks ahead answer step enough readOn readAll
 examples = (refl, refl, refl, refl, refl, refl, refl, refl, refl, refl, refl, (refl, refl))

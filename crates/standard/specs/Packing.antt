@@ -7,7 +7,7 @@ use mathlib.Core.List.{List, [], _∷_, _++_, map}
 use lib.ListN.{length, take, drop, replicate}
 use lib.Dec.{leb}
 use Rattle.standard.specs.Characters.{byte, padded}
-use Rattle.standard.specs.Pieces.{held, Format, fixed, variable, spanned, Params, Kind, whole, first, middle, last}
+use Rattle.standard.specs.Pieces.{held, Format, fixed, variable, spanned, Params, Role, whole, first, middle, last}
 use Rattle.standard.specs.Records.{File}
 
 -- What is laid from some point of a block on: the rest of that block, the blocks behind it, and U.
@@ -26,17 +26,17 @@ thenNext bytes l = record { here = bytes; later = l .here ∷ l .later; unused =
 abbrev pub fill : ℕ → List ℕ
 fill n = replicate n 0
 
-abbrev pub kindByte : Kind → ℕ
-kindByte whole = byte "0"
-kindByte first = byte "1"
-kindByte middle = byte "2"
-kindByte last = byte "3"
+abbrev pub roleByte : Role → ℕ
+roleByte whole = byte "0"
+roleByte first = byte "1"
+roleByte middle = byte "2"
+roleByte last = byte "3"
 
 unfoldable pub recordV : List ℕ → List ℕ
 recordV body = padded 4 (4 + length body) ++ body
 
-unfoldable pub segment : Kind → List ℕ → List ℕ
-segment k body = kindByte k ∷ (padded 4 (5 + length body) ++ body)
+unfoldable pub segment : Role → List ℕ → List ℕ
+segment k body = roleByte k ∷ (padded 4 (5 + length body) ++ body)
 
 -- F and V blocked: "into the current block if it fits, else the next". `room` is what is left of the current block
 abbrev pub placeIf : Bool → ℕ → ℕ → List ℕ → (ℕ → Laid) → Laid
@@ -53,15 +53,15 @@ layOne B [] = []
 layOne B (x ∷ xs) = (x ++ fill (B - length x)) ∷ layOne B xs
 
 -- S: "takes what fits, and goes on in the next block". The first argument bounds the number of blocks.
-abbrev pub segmentKind : Bool → Bool → Kind
-segmentKind false true = whole
-segmentKind false false = first
-segmentKind true false = middle
-segmentKind true true = last
+abbrev pub segmentRole : Bool → Bool → Role
+segmentRole false true = whole
+segmentRole false false = first
+segmentRole true false = middle
+segmentRole true true = last
 
 abbrev pub spreadIf : Bool → Bool → ℕ → List ℕ → (ℕ → Laid) → (List ℕ → Laid) → Laid
-spreadIf true begun room body more again = then (segment (segmentKind begun true) body) (more (room - (5 + length body)))
-spreadIf false begun room body more again = thenNext (segment (segmentKind begun false) (take (room - 5) body)) (again (drop (room - 5) body))
+spreadIf true begun room body more again = then (segment (segmentRole begun true) body) (more (room - (5 + length body)))
+spreadIf false begun room body more again = thenNext (segment (segmentRole begun false) (take (room - 5) body)) (again (drop (room - 5) body))
 
 unfoldable pub spread : ℕ → ℕ → Bool → ℕ → List ℕ → (ℕ → Laid) → Laid
 spread zero B begun room body more = more room

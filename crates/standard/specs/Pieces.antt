@@ -27,14 +27,14 @@ pub record Params : Type 0 where
   pub blocked : Bool
 
 -- The marks 0 to 3 of a segment. A record of F or V is a whole.
-pub data Kind : Type 0 where
-  whole first middle last : Kind
+pub data Role : Type 0 where
+  whole first middle last : Role
 
 -- What stands at an offset of a block: only fill, or nothing; a record or segment, with its body and its size, control word counted; or a rule is broken.
 pub data Piece : Type 0 where
   blank : Piece
   broken : Piece
-  piece : Kind → List ℕ → ℕ → Piece
+  piece : Role → List ℕ → ℕ → Piece
 
 -- "Fill is byte 00."
 abbrev pub isFill : List ℕ → Bool
@@ -56,8 +56,8 @@ abbrev pub four : List ℕ → Option ℕ
 four rest = number4 (getD rest 0 0) (getD rest 1 0) (getD rest 2 0) (getD rest 3 0)
 
 -- "`0`-`3`"
-unfoldable pub kindOf : ℕ → Option Kind
-kindOf c =
+unfoldable pub roleOf : ℕ → Option Role
+roleOf c =
     cond (eqb c (byte "0")) (some whole)
     (cond (eqb c (byte "1")) (some first)
     (cond (eqb c (byte "2")) (some middle)
@@ -70,7 +70,7 @@ sizedV R rest (some n) =
     cond (leb 4 n && leb n R && leb n (length rest)) (piece whole (take (n - 4) (drop 4 rest)) n) broken
 
 -- "S: `0`-`3`, four digits from 5, inside the content"
-abbrev pub sizedS : List ℕ → Option Kind → Option ℕ → Piece
+abbrev pub sizedS : List ℕ → Option Role → Option ℕ → Piece
 sizedS rest none n = broken
 sizedS rest (some k) none = broken
 sizedS rest (some k) (some n) = cond (leb 5 n && leb n (length rest)) (piece k (take (n - 5) (drop 5 rest)) n) broken
@@ -92,7 +92,7 @@ abbrev pub onlyFillS : List ℕ → Bool
 onlyFillS rest = ltb (length rest) 5 || eqb (getD rest 0 0) 0
 
 unfoldable pub lookS : List ℕ → Piece
-lookS rest = cond (onlyFillS rest) (mustFill rest) (sizedS rest (kindOf (getD rest 0 0)) (four (drop 1 rest)))
+lookS rest = cond (onlyFillS rest) (mustFill rest) (sizedS rest (roleOf (getD rest 0 0)) (four (drop 1 rest)))
 
 abbrev pub lookIn : Format → ℕ → Bool → ℕ → List ℕ → Piece
 lookIn fixed R blocked o rest = lookF R rest
@@ -106,12 +106,12 @@ look p o rest = lookIn (p .format) (p .R) (p .blocked) o rest
 -- What a reader meets on its way through the file: a piece, with its block, its offset and the offset right behind it; a place where a content rule is
 -- broken; a lost block.
 pub data Token : Type 0 where
-  part : (k : Kind) (body : List ℕ) (block offset behind : ℕ) → Token
+  part : (k : Role) (body : List ℕ) (block offset behind : ℕ) → Token
   bad : (block offset : ℕ) → Token
   lost : (block : ℕ) → Token
 
 -- "After 1 or 2 the rest of the block is fill"
-abbrev pub afterPart : Kind → ℕ → ℕ → List ℕ → List Token → List Token
+abbrev pub afterPart : Role → ℕ → ℕ → List ℕ → List Token → List Token
 afterPart whole b o rest more = more
 afterPart first b o rest more = cond (isFill rest) [] (bad b o ∷ [])
 afterPart middle b o rest more = cond (isFill rest) [] (bad b o ∷ [])

@@ -5,7 +5,7 @@ use mathlib.Core.Bool.{Bool, true, false, cond, _&&_}
 use mathlib.Core.List.{List, [], _∷_, _++_}
 use lib.ListN.{length, getD}
 use lib.Dec.{leb, ltb, eqb}
-use Rattle.standard.specs.Pieces.{Block, lostBlock, held, sizeOf, Format, fixed, variable, spanned, Params, Kind, whole, first, middle, last, Token, part, bad, lost, inBlocks, ahead}
+use Rattle.standard.specs.Pieces.{Block, lostBlock, held, sizeOf, Format, fixed, variable, spanned, Params, Role, whole, first, middle, last, Token, part, bad, lost, inBlocks, ahead}
 use Rattle.standard.specs.Refusals.{refuse, refuseAt}
 use Rattle.standard.specs.Places.{startPlace}
 use Rattle.standard.specs.declared.Refusal.{Refusal}
@@ -66,7 +66,7 @@ over p n = overIn (p .format) (p .R) n
 
 -- "the next segment must be 2 or 3; otherwise it must be 0 or 1"; after a gap "a 2 is dropped, unmeasured by R, and the mark stays; a 3 is dropped
 -- likewise and reading goes on without it"
-abbrev pub meet : Params → State → Kind → List ℕ → ℕ → Move
+abbrev pub meet : Params → State → Role → List ℕ → ℕ → Move
 meet p fresh whole body b = cond (over p (length body)) breach (deliver body b)
 meet p fresh first body b = cond (over p (length body)) breach (carry (within body b))
 meet p fresh middle body b = breach
