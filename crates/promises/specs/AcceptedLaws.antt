@@ -10,7 +10,7 @@ use native.Mathlib.Omega.{arith}
 use native.Mathlib.Nat.{eq-or-lt-of-le}
 use borrow.Author.Tests.{ltb-false, leb-true, not-true, le-leb, eqb-true, not-false}
 use Rattle.standard.specs.Layout.{slotCount, labelAt, imageLength}
-use Rattle.standard.specs.Addresses.{isAddress, legal, fiveDigits, addressIn, index, before}
+use Rattle.standard.specs.Addresses.{isAddress, legal, fiveDigits, addressIn, rank, before}
 use Rattle.standard.specs.Labels.{rule29, rule35, hdr1Rules, labelFault, startOf, endOf}
 use Rattle.standard.specs.Characters.{field, between, at}
 use Rattle.standard.specs.Free.{inExtent}
@@ -42,7 +42,7 @@ label-faultless image g slot j h =
 pub record InRange (g : Geometry) (h : List ℕ) : Type 0 where
   pub start-legal : legal g (startOf h) ≡ true
   pub end-legal : legal g (endOf h) ≡ true
-  pub ordered : index g (startOf h) ≤ index g (endOf h)
+  pub ordered : rank g (startOf h) ≤ rank g (endOf h)
 
 address-legal : (g : Geometry) (f : List ℕ) → isAddress g f ≡ true → legal g (addressIn f) ≡ true
 unfolding isAddress
@@ -53,11 +53,11 @@ unfolding labelFault hdr1Rules rule29 rule35 before
 fault-none g h z =
     let (r1, (r6, (r23, (r29, (r35, _))))) = rows-each _ z refl in
     let o = and-r (isAddress g (field h 35 39)) _ r35 in
-    let n : not (ltb (index g (endOf h)) (index g (startOf h))) ≡ true = rw r29 at o in
+    let n : not (ltb (rank g (endOf h)) (rank g (startOf h))) ≡ true = rw r29 at o in
     record {
       start-legal = address-legal g (field h 29 33) r29;
       end-legal = address-legal g (field h 35 39) (and-l (isAddress g (field h 35 39)) _ r35);
-      ordered = ltb-false (index g (endOf h)) (index g (startOf h)) (not-true _ n);
+      ordered = ltb-false (rank g (endOf h)) (rank g (startOf h)) (not-true _ n);
     }
 
 pub label-in-range : (image : List ℕ) (g : Geometry) (slot : ℕ) → judged image ≡ Volume g → hasLabel g image slot ≡ true → InRange g (labelAt g image slot)
@@ -65,22 +65,22 @@ label-in-range image g slot j h =
     fault-none g (labelAt g image slot) (label-faultless image g slot j h)
 
 -- no address number is in the extents of two labels
-extent-bounds : (g : Geometry) (h : List ℕ) (i : ℕ) → inExtent g h i ≡ true → (index g (startOf h) ≤ i) × (i ≤ index g (endOf h))
+extent-bounds : (g : Geometry) (h : List ℕ) (i : ℕ) → inExtent g h i ≡ true → (rank g (startOf h) ≤ i) × (i ≤ rank g (endOf h))
 unfolding inExtent
 extent-bounds g h i e =
-    (leb-true (index g (startOf h)) i (and-l (leb (index g (startOf h)) i) _ e), leb-true i (index g (endOf h)) (and-r (leb (index g (startOf h)) i) _ e))
+    (leb-true (rank g (startOf h)) i (and-l (leb (rank g (startOf h)) i) _ e), leb-true i (rank g (endOf h)) (and-r (leb (rank g (startOf h)) i) _ e))
 
-pub bounds-extent : (g : Geometry) (h : List ℕ) (i : ℕ) → index g (startOf h) ≤ i → i ≤ index g (endOf h) → inExtent g h i ≡ true
+pub bounds-extent : (g : Geometry) (h : List ℕ) (i : ℕ) → rank g (startOf h) ≤ i → i ≤ rank g (endOf h) → inExtent g h i ≡ true
 unfolding inExtent
-bounds-extent g h i lo hi = rw (le-leb (index g (startOf h)) i lo, le-leb i (index g (endOf h)) hi)
+bounds-extent g h i lo hi = rw (le-leb (rank g (startOf h)) i lo, le-leb i (rank g (endOf h)) hi)
 
 no-overlap : (g : Geometry) (h k : List ℕ) (i : ℕ) → overlap g h k ≡ false → inExtent g h i ≡ true → inExtent g k i ≡ true → ⊥
 unfolding overlap
 no-overlap g h k i o a b =
     let x = extent-bounds g h i a in
     let y = extent-bounds g k i b in
-    let p = le-leb (index g (startOf h)) (index g (endOf k)) (omega arith) in
-    let q = le-leb (index g (startOf k)) (index g (endOf h)) (omega arith) in
+    let p = le-leb (rank g (startOf h)) (rank g (endOf k)) (omega arith) in
+    let q = le-leb (rank g (startOf k)) (rank g (endOf h)) (omega arith) in
     true-not-false _ (simp (p, q)) o
 
 lower-apart : (image : List ℕ) (g : Geometry) (slot lower i : ℕ) → judged image ≡ Volume g → hasLabel g image slot ≡ true → hasLabel g image lower ≡ true

@@ -11,7 +11,7 @@ use borrow.Author.Tests.{ltb-true, ltb-false, leb-true, lt-ltb, le-leb, ne-eqb}
 use Rattle.standard.specs.Characters.{between}
 use Rattle.standard.specs.Layout.{ordinalAt, indexSectors}
 use Rattle.standard.specs.Defects.{present, skipOne, physical}
-use Rattle.standard.specs.Addresses.{legal, index, addressCount, stepped, ordinal}
+use Rattle.standard.specs.Addresses.{legal, rank, addressCount, stepped, ordinal}
 use Rattle.standard.specs.declared.Geometry.{Geometry}
 use Rattle.standard.specs.declared.Address.{Address}
 use Rattle.promises.specs.Basics.{either, lt-or-le, cond-elim, true-not-false, and-l, and-r}
@@ -67,9 +67,9 @@ from-parts g a p =
       le-leb (a .sector) (g .D) (p .sector-high),
     )
 
-pub index-lt : (g : Geometry) (a : Address) → legal g a ≡ true → index g a < addressCount g
-unfolding index
-index-lt g a h =
+pub rank-lt : (g : Geometry) (a : Address) → legal g a ≡ true → rank g a < addressCount g
+unfolding rank
+rank-lt g a h =
     let p = parts g a h in
     mixed-lt (a .cylinder - 1) (a .side) (a .sector - 1) (g .L) (g .S) (g .D) (omega arith) (p .side-low) (omega arith)
 
@@ -218,8 +218,8 @@ cylinder-step x s n S D e f l =
     let h : (x + 1) * S ≡ x * S + s + 1 = omega arith in
     omega (arith, ap (λ (y : ℕ). y * D) h)
 
-to-number : (g : Geometry) (a b : Address) → Step g a b → Parts g a → index g b ≡ suc (index g a)
-unfolding index
+to-number : (g : Geometry) (a b : Address) → Step g a b → Parts g a → rank g b ≡ suc (rank g a)
+unfolding rank
 to-number g a b (sector-on l) p = omega (arith, p)
 to-number g a b (side-on l m) p = omega (arith, p)
 to-number g a b (cylinder-on l m) p =
@@ -228,8 +228,8 @@ to-number g a b (cylinder-on l m) p =
     let c : a .cylinder + 1 - 1 ≡ x + 1 = omega (arith, p) in
     rw c k
 
-pub step-index : (g : Geometry) (a : Address) → legal g a ≡ true → index g (stepped g a) ≡ suc (index g a)
-step-index g a h = to-number g a (stepped g a) (step-is g a h) (parts g a h)
+pub step-rank : (g : Geometry) (a : Address) → legal g a ≡ true → rank g (stepped g a) ≡ suc (rank g a)
+step-rank g a h = to-number g a (stepped g a) (step-is g a h) (parts g a h)
 
 -- it is legal where its cylinder is, and that it is from every address but the last
 pub step-parts : (g : Geometry) (a b : Address) → Step g a b → Parts g a → b .cylinder ≤ g .L → Parts g b
@@ -249,14 +249,14 @@ not-last x s n L S D l e f m h =
     let w = cylinder-step x s n S D e f m in
     absurd (omega (arith, ap (λ (y : ℕ). y * S * D) q)))
 
-cylinder-left : (g : Geometry) (a b : Address) → Step g a b → Parts g a → suc (index g a) < addressCount g → b .cylinder ≤ g .L
-unfolding index
+cylinder-left : (g : Geometry) (a b : Address) → Step g a b → Parts g a → suc (rank g a) < addressCount g → b .cylinder ≤ g .L
+unfolding rank
 cylinder-left g a b (sector-on l) p h = p .cylinder-high
 cylinder-left g a b (side-on l m) p h = p .cylinder-high
 cylinder-left g a b (cylinder-on l m) p h =
     omega (arith, p, not-last (a .cylinder - 1) (a .side) (a .sector) (g .L) (g .S) (g .D) (omega (arith, p)) (omega (arith, p)) (omega (arith, p)) (p .sector-low) h)
 
-pub step-legal : (g : Geometry) (a : Address) → legal g a ≡ true → suc (index g a) < addressCount g → legal g (stepped g a) ≡ true
+pub step-legal : (g : Geometry) (a : Address) → legal g a ≡ true → suc (rank g a) < addressCount g → legal g (stepped g a) ≡ true
 step-legal g a h l =
     let s = step-is g a h in
     let p = parts g a h in

@@ -9,13 +9,13 @@ use lib.Dec.{leb, ltb, eqb}
 use native.Mathlib.Omega.{arith}
 use native.Mathlib.Nat.{le-refl, not-suc-le-zero, mul-le-mul-right, le-div-iff-mul-le, mul-div-cancel, mul-mod-left}
 use borrow.Author.Tests.{ltb-true, ltb-false, lt-ltb, le-ltb, le-leb, lt-leb, eq-eqb, ne-eqb, eqb-true, eqb-false}
-use Rattle.standard.specs.Addresses.{legal, index, before, stepped, pastLast, firstAddress}
+use Rattle.standard.specs.Addresses.{legal, rank, before, stepped, pastLast, firstAddress}
 use Rattle.standard.specs.Files.{countBefore}
 use Rattle.standard.specs.Writing.{nextDataEnd}
 use Rattle.standard.specs.declared.Geometry.{Geometry}
 use Rattle.standard.specs.declared.Address.{Address}
 use Rattle.promises.specs.Basics.{either, lt-or-le, or-right}
-use Rattle.promises.specs.AddressLaws.{Parts, parts, from-parts, Step, sector-on, side-on, cylinder-on, step-is, step-index, step-parts}
+use Rattle.promises.specs.AddressLaws.{Parts, parts, from-parts, Step, sector-on, side-on, cylinder-on, step-is, step-rank, step-parts}
 use Rattle.promises.specs.ExtentAddresses.{Rising, Between, rising-lower}
 
 module _ (g : Geometry) where
@@ -55,41 +55,41 @@ module _ (g : Geometry) where
   rising-at lo hi [] r k l d = absurd (not-suc-le-zero l)
   rising-at lo hi (a ∷ xs) r zero l d = (r .0, r .1, r .2)
   rising-at lo hi (a ∷ xs) r (suc k) l d =
-      rising-at lo hi xs (rising-lower g (suc (index g a)) lo hi xs (omega (arith, r .1)) (r .3)) k (omega arith) d
+      rising-at lo hi xs (rising-lower g (suc (rank g a)) lo hi xs (omega (arith, r .1)) (r .3)) k (omega arith) d
 
-  none-before : (e : Address) (lo hi : ℕ) (xs : List Address) → Rising g lo hi xs → index g e ≤ lo → countBefore g e xs ≡ 0
+  none-before : (e : Address) (lo hi : ℕ) (xs : List Address) → Rising g lo hi xs → rank g e ≤ lo → countBefore g e xs ≡ 0
   unfolding before
   none-before e lo hi [] r l = refl
   none-before e lo hi (a ∷ xs) r l =
-      rw (le-ltb (index g a) (index g e) (omega (arith, r .1)), none-before e (suc (index g a)) hi xs (r .3) (omega (arith, r .1)))
+      rw (le-ltb (rank g a) (rank g e) (omega (arith, r .1)), none-before e (suc (rank g a)) hi xs (r .3) (omega (arith, r .1)))
 
   count-at : (lo hi : ℕ) (xs : List Address) → Rising g lo hi xs → (k : ℕ) → k < length xs → (d : Address) → countBefore g (getD xs k d) xs ≡ k
   unfolding before
   count-at lo hi [] r k l d = absurd (not-suc-le-zero l)
   count-at lo hi (a ∷ xs) r zero l d =
-      rw (le-ltb (index g a) (index g a) (le-refl (index g a)), none-before a (suc (index g a)) hi xs (r .3) (omega arith))
+      rw (le-ltb (rank g a) (rank g a) (le-refl (rank g a)), none-before a (suc (rank g a)) hi xs (r .3) (omega arith))
   count-at lo hi (a ∷ xs) r (suc k) l d =
-      let b = rising-at (suc (index g a)) hi xs (r .3) k (omega arith) d in
-      rw (lt-ltb (index g a) (index g (getD xs k d)) (b .1), count-at (suc (index g a)) hi xs (r .3) k (omega arith) d) (omega arith)
+      let b = rising-at (suc (rank g a)) hi xs (r .3) k (omega arith) d in
+      rw (lt-ltb (rank g a) (rank g (getD xs k d)) (b .1), count-at (suc (rank g a)) hi xs (r .3) k (omega arith) d) (omega arith)
 
-  later-at : (lo hi : ℕ) (xs : List Address) → Rising g lo hi xs → (k : ℕ) → k < length xs → 1 ≤ k → (d : Address) → lo < index g (getD xs k d)
+  later-at : (lo hi : ℕ) (xs : List Address) → Rising g lo hi xs → (k : ℕ) → k < length xs → 1 ≤ k → (d : Address) → lo < rank g (getD xs k d)
   later-at lo hi [] r k l o d = absurd (not-suc-le-zero l)
   later-at lo hi (a ∷ xs) r zero l o d = absurd (not-suc-le-zero o)
-  later-at lo hi (a ∷ xs) r (suc k) l o d = omega (arith, r .1, rising-at (suc (index g a)) hi xs (r .3) k (omega arith) d .1)
+  later-at lo hi (a ∷ xs) r (suc k) l o d = omega (arith, r .1, rising-at (suc (rank g a)) hi xs (r .3) k (omega arith) d .1)
 
   -- THE DATA END OF n BLOCKS
   module _ (start end : Address) (m : ℕ) (good : List Address) (ls : legal g start ≡ true) (le : legal g end ≡ true)
-      (o : index g start ≤ index g end) (r : Rising g (index g start) (index g end) good) (pos : 1 ≤ m) where
+      (o : rank g start ≤ rank g end) (r : Rising g (rank g start) (rank g end) good) (pos : 1 ≤ m) where
     pub record Ending (n : ℕ) (e : Address) : Type 0 where
       pub right : EndLegal e
-      pub behind : index g start ≤ index g e
-      pub count : cond (eqb (index g e) (index g start)) 0 (cond (leb (index g e) (index g end)) (countBefore g e good / m) (length good / m)) ≡ n
-      pub whole : (not (eqb (index g e) (index g start)) && leb (index g e) (index g end) && not (eqb (countBefore g e good % m) 0)) ≡ false
+      pub behind : rank g start ≤ rank g e
+      pub count : cond (eqb (rank g e) (rank g start)) 0 (cond (leb (rank g e) (rank g end)) (countBefore g e good / m) (length good / m)) ≡ n
+      pub whole : (not (eqb (rank g e) (rank g start)) && leb (rank g e) (rank g end) && not (eqb (countBefore g e good % m) 0)) ≡ false
 
     at-start : Ending 0 start
     at-start =
-        let q = eq-eqb (index g start) (index g start) refl in
-        record { right = legal-end start ls; behind = le-refl (index g start); count = rw q; whole = rw q }
+        let q = eq-eqb (rank g start) (rank g start) refl in
+        record { right = legal-end start ls; behind = le-refl (rank g start); count = rw q; whole = rw q }
 
     at-good : (n : ℕ) → 1 ≤ n → n < length good / m → Ending n (getD good (n * m) firstAddress)
     at-good n n1 l =
@@ -97,11 +97,11 @@ module _ (g : Geometry) where
         let k : n * m < length good = omega arith in
         let k1 : 1 ≤ n * m = omega (arith, mul-le-mul-right m n1) in
         let e = getD good (n * m) firstAddress in
-        let b = rising-at (index g start) (index g end) good r (n * m) k firstAddress in
-        let s = later-at (index g start) (index g end) good r (n * m) k k1 firstAddress in
-        let c = count-at (index g start) (index g end) good r (n * m) k firstAddress in
-        let q1 = ne-eqb (index g e) (index g start) (λ (z : index g e ≡ index g start). omega arith) in
-        let q2 = le-leb (index g e) (index g end) (b .2) in
+        let b = rising-at (rank g start) (rank g end) good r (n * m) k firstAddress in
+        let s = later-at (rank g start) (rank g end) good r (n * m) k k1 firstAddress in
+        let c = count-at (rank g start) (rank g end) good r (n * m) k firstAddress in
+        let q1 = ne-eqb (rank g e) (rank g start) (λ (z : rank g e ≡ rank g start). omega arith) in
+        let q2 = le-leb (rank g e) (rank g end) (b .2) in
         record {
           right = legal-end e (b .0);
           behind = b .1;
@@ -111,9 +111,9 @@ module _ (g : Geometry) where
 
     at-end : (n : ℕ) → n ≡ length good / m → Ending n (stepped g end)
     at-end n l =
-        let s = step-index g end le in
-        let q1 = ne-eqb (index g (stepped g end)) (index g start) (λ (z : index g (stepped g end) ≡ index g start). omega arith) in
-        let q2 = lt-leb (index g (stepped g end)) (index g end) (omega arith) in
+        let s = step-rank g end le in
+        let q1 = ne-eqb (rank g (stepped g end)) (rank g start) (λ (z : rank g (stepped g end) ≡ rank g start). omega arith) in
+        let q2 = lt-leb (rank g (stepped g end)) (rank g end) (omega arith) in
         record { right = step-end end le; behind = omega arith; count = rw (q1, q2) (sym l); whole = rw (q1, q2) }
 
     pub ending : (n : ℕ) → n ≤ length good / m → Ending n (nextDataEnd g start end m good n)

@@ -15,7 +15,8 @@ use Rattle.standard.specs.Judgement.{judged, volumeOf, volumeList}
 use Rattle.standard.specs.Finding.{found, foundAt}
 use Rattle.standard.specs.Free.{freeCount}
 use Rattle.standard.specs.Files.{extent, blockCount, countList, counted, openList, openRefusal, fileIn}
-use Rattle.standard.specs.Records.{Mode, salvage, Record, rec, start, listed, inFile}
+use Rattle.standard.specs.Records.{Mode, salvage, Record, rec, listed, inFile}
+use Rattle.standard.specs.Places.{start}
 use Rattle.standard.specs.Reading.{Reply, laidOver, readAnswer, outputAfter}
 use Rattle.standard.specs.Writing.{parted, needed, writeList, writeRefusal, written, imageAfter}
 use Rattle.standard.specs.declared.Geometry.{Geometry}

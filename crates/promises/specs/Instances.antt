@@ -9,17 +9,18 @@ use lib.ListN.{length, replicate}
 use native.Mathlib.Omega.{arith}
 use borrow.Author.Tests.{eqb-true}
 use Rattle.standard.specs.Characters.{oneOf, same, every, aSet, isDigit, digitValue, numberFrom, isHex, hexValue, hexFrom, bytes, spacesOrNumber, padded, shownBy}
-use Rattle.standard.specs.Refusals.{inOrder, orElse, lowestFault, given-when, refuse}
+use Rattle.standard.specs.Refusals.{inOrder, orElse, given-when, refuse}
 use Rattle.standard.specs.Layout.{ordinalAt, sectorCount, kAt, bodySize, kindOffset, bodyOffset, imageLength, kindAt, bodyAt, firstByte, validMark, incorrectMark, checkFailed, indexKind, indexBody, slotCount, slotOrdinal, labelOffset, labelAt}
 use Rattle.standard.specs.Volume.{vol1Rules}
 use Rattle.standard.specs.Defects.{ermapRules, ermapRule7, ermapRule11, skipOne, physical}
-use Rattle.standard.specs.Addresses.{fiveDigits, addressIn, fiveRead, legal, index, before, stepped, pastLast, isAddress, isDataEnd, ordinal}
-use Rattle.standard.specs.Labels.{knownLevel, anotherLevel, formatOf, recordLength, unusedCount, rule44, rule6, rule29, rule35, rule40, rule23, rule63, rule41, rule42, rule43, rule45, rule64, rule73, rule46, spacesOrDate, rule48, rule67, rule54, rule58, rule75, hdr1Rules, labelFault}
+use Rattle.standard.specs.Addresses.{fiveDigits, addressIn, fiveRead, legal, rank, before, stepped, pastLast, isAddress, isDataEnd, ordinal}
+use Rattle.standard.specs.Labels.{knownLevel, anotherLevel, formatOf, recordLength, unusedCount, rule44, rule6, rule29, rule35, rule40, rule23, rule63, rule41, rule42, rule43, rule45, rule64, rule73, rule46, spacesOrDate, rule48, rule67, rule54, rule58, rule75, hdr1Rules, labelFault, variable, spanned}
 use Rattle.standard.specs.Slots.{isLabel, isDeleted, isUnreadable, slotRefusal, slotsFrom, hasLabel}
 use Rattle.standard.specs.Judgement.{numbersIn, legalKind, kindsFrom, clashesBelow, clashesFrom, overlap, shares, sameName, namesake, volumeRefusal, judged}
 use Rattle.standard.specs.Files.{addressesFrom, extentSize, extent, isDefective, goodAmong, goodRecords, recordsToBlock, goodBefore, dataEndAtStart, dataEndInExtent, blocksHeld, blockCount, isWrong, wrongAmong, splitsBlock, countRefusal, counted, openRefusal, anyFailed, bytesOf, blockOf, blocksFrom, fileIn, fileAt}
-use Rattle.standard.specs.Records.{answer, step, inFile, readOn, enough, readAll, join, listed, plain, salvage, start, Record}
-use Rattle.standard.specs.Pieces.{look, walk, pieces, inBlock, inBlocks, ahead, number4, roleOf, lookF, lookV, lookS, variable, spanned}
+use Rattle.standard.specs.Records.{answer, step, inFile, readOn, enough, readAll, join, listed, plain, salvage, Record}
+use Rattle.standard.specs.Places.{start}
+use Rattle.standard.specs.Pieces.{look, walk, pieces, inBlock, inBlocks, ahead, number4, roleOf, lookF, lookV, lookS}
 use Rattle.standard.specs.Reading.{replyIn, reply, laidOver}
 use Rattle.standard.specs.declared.Geometry.{Geometry}
 use Rattle.standard.specs.declared.Judged.the-variants.{Volume}
@@ -37,6 +38,7 @@ use Rattle.promises.specs.WritingPromises.{reads}
 use Rattle.promises.specs.PlainFailed.{FirstGone, ReadUpTo, plain-up-to}
 use Rattle.promises.specs.WrittenHeard.{written-heard}
 use Rattle.promises.specs.NeededLaws.{neededFrom, spreadTo}
+use Rattle.standard.specs.Rules.{lowestFault}
 
 -- a sector of 128 bytes with a valid mark: some bytes, and spaces behind them
 abbrev sector : List ℕ → List ℕ
@@ -84,7 +86,7 @@ pub computed : (judged image ≡ Volume geometry)
     × (sectorOf geometry (recordsOf geometry image (labelAt geometry image 1) 1) 9 ≡ true)
     × (gone geometry (among (9 ∷ [])) image (labelAt geometry image 1) 0 ≡ false)
     × (gone geometry (among (9 ∷ [])) image (labelAt geometry image 1) 1 ≡ true)
-unfolding image oneOf same every aSet isDigit digitValue numberFrom spacesOrNumber isHex hexValue hexFrom given-when inOrder orElse lowestFault ordinalAt sectorCount kAt bodySize kindOffset bodyOffset imageLength kindAt bodyAt firstByte validMark incorrectMark checkFailed indexKind indexBody slotCount slotOrdinal labelOffset labelAt vol1Rules ermapRules ermapRule7 ermapRule11 rule41 rule42 rule43 rule45 rule64 rule73 skipOne physical fiveDigits addressIn fiveRead legal index before stepped pastLast isAddress isDataEnd ordinal knownLevel anotherLevel formatOf recordLength unusedCount rule44 rule6 rule29 rule35 rule40 rule23 rule63 rule46 spacesOrDate rule48 rule67 rule54 rule58 rule75 hdr1Rules labelFault isLabel isDeleted isUnreadable slotRefusal slotsFrom hasLabel numbersIn legalKind kindsFrom clashesBelow clashesFrom overlap shares sameName namesake volumeRefusal judged addressesFrom extentSize extent isDefective goodAmong goodRecords recordsToBlock goodBefore dataEndAtStart dataEndInExtent blocksHeld blockCount isWrong wrongAmong splitsBlock countRefusal counted openRefusal anyFailed bytesOf blockOf blocksFrom fileIn fileAt answer step inFile readOn enough readAll join listed number4 roleOf lookF lookV lookS look walk pieces inBlock inBlocks ahead replyIn reply laidOver following failedAt sectorOf recordsOf anyHit gone among
+unfolding image oneOf same every aSet isDigit digitValue numberFrom spacesOrNumber isHex hexValue hexFrom given-when inOrder orElse lowestFault ordinalAt sectorCount kAt bodySize kindOffset bodyOffset imageLength kindAt bodyAt firstByte validMark incorrectMark checkFailed indexKind indexBody slotCount slotOrdinal labelOffset labelAt vol1Rules ermapRules ermapRule7 ermapRule11 rule41 rule42 rule43 rule45 rule64 rule73 skipOne physical fiveDigits addressIn fiveRead legal rank before stepped pastLast isAddress isDataEnd ordinal knownLevel anotherLevel formatOf recordLength unusedCount rule44 rule6 rule29 rule35 rule40 rule23 rule63 rule46 spacesOrDate rule48 rule67 rule54 rule58 rule75 hdr1Rules labelFault isLabel isDeleted isUnreadable slotRefusal slotsFrom hasLabel numbersIn legalKind kindsFrom clashesBelow clashesFrom overlap shares sameName namesake volumeRefusal judged addressesFrom extentSize extent isDefective goodAmong goodRecords recordsToBlock goodBefore dataEndAtStart dataEndInExtent blocksHeld blockCount isWrong wrongAmong splitsBlock countRefusal counted openRefusal anyFailed bytesOf blockOf blocksFrom fileIn fileAt answer step inFile readOn enough readAll join listed number4 roleOf lookF lookV lookS look walk pieces inBlock inBlocks ahead replyIn reply laidOver following failedAt sectorOf recordsOf anyHit gone among
 computed = (refl, refl, refl, refl, omega arith, omega arith, refl, refl, refl)
 
 -- THE PROMISE OF SALVAGE HOLDS OF SOMETHING: its premises are met by this image and this failure
@@ -141,7 +143,7 @@ demoLengths = 5 ∷ 3 ∷ []
 
 pub demo-accepted : (length demo ≡ 1548) × (judged demo ≡ Volume demoVolume) × (writeRefusal demoVolume demo 1 demoBodies demoLengths ≡ Passed)
     × (written demo 1 demoBodies demoLengths ≡ Blocks 1)
-unfolding oneOf same every aSet isDigit digitValue numberFrom spacesOrNumber isHex hexValue hexFrom padded shownBy given-when inOrder orElse lowestFault ordinalAt sectorCount kAt bodySize kindOffset bodyOffset imageLength kindAt bodyAt firstByte validMark incorrectMark checkFailed indexKind indexBody slotCount slotOrdinal labelOffset labelAt vol1Rules ermapRules ermapRule7 ermapRule11 rule41 rule42 rule43 rule45 rule64 rule73 skipOne physical fiveDigits addressIn fiveRead legal index before stepped pastLast isAddress isDataEnd ordinal knownLevel anotherLevel formatOf recordLength unusedCount rule44 rule6 rule29 rule35 rule40 rule23 rule63 rule46 spacesOrDate rule48 rule67 rule54 rule58 rule75 hdr1Rules labelFault isLabel isDeleted isUnreadable slotRefusal slotsFrom hasLabel numbersIn legalKind kindsFrom clashesBelow clashesFrom overlap shares sameName namesake volumeRefusal judged addressesFrom extentSize extent isDefective goodAmong goodRecords recordsToBlock goodBefore dataEndAtStart dataEndInExtent blocksHeld blockCount isWrong wrongAmong splitsBlock countRefusal counted openRefusal anyFailed bytesOf blockOf blocksFrom fileIn fileAt recordV segment lay layOne spread layS pack fileOf total parted wrongLength lengthsFrom packing writeRefusal splice filledTo storeRecord storeBlock storeBlocks nextDataEnd dataEndAfter setLabel imageWith outcome
+unfolding oneOf same every aSet isDigit digitValue numberFrom spacesOrNumber isHex hexValue hexFrom padded shownBy given-when inOrder orElse lowestFault ordinalAt sectorCount kAt bodySize kindOffset bodyOffset imageLength kindAt bodyAt firstByte validMark incorrectMark checkFailed indexKind indexBody slotCount slotOrdinal labelOffset labelAt vol1Rules ermapRules ermapRule7 ermapRule11 rule41 rule42 rule43 rule45 rule64 rule73 skipOne physical fiveDigits addressIn fiveRead legal rank before stepped pastLast isAddress isDataEnd ordinal knownLevel anotherLevel formatOf recordLength unusedCount rule44 rule6 rule29 rule35 rule40 rule23 rule63 rule46 spacesOrDate rule48 rule67 rule54 rule58 rule75 hdr1Rules labelFault isLabel isDeleted isUnreadable slotRefusal slotsFrom hasLabel numbersIn legalKind kindsFrom clashesBelow clashesFrom overlap shares sameName namesake volumeRefusal judged addressesFrom extentSize extent isDefective goodAmong goodRecords recordsToBlock goodBefore dataEndAtStart dataEndInExtent blocksHeld blockCount isWrong wrongAmong splitsBlock countRefusal counted openRefusal anyFailed bytesOf blockOf blocksFrom fileIn fileAt recordV segment lay layOne spread layS pack fileOf total parted wrongLength lengthsFrom packing writeRefusal splice filledTo storeRecord storeBlock storeBlocks nextDataEnd dataEndAfter setLabel imageWith outcome
 demo-accepted = (refl, refl, refl, refl)
 
 -- THE PROMISES OF WRITING SAY SOMETHING: the two records are read back

@@ -9,7 +9,7 @@ use native.Mathlib.Omega.{arith}
 use native.Mathlib.Nat.{eq-or-lt-of-le}
 use borrow.Author.Tests.{ltb-true, ltb-false}
 use Rattle.standard.specs.Layout.{slotCount, sectorCount, slotOrdinal, validMark, ermapOf, vol1Of, labelAt}
-use Rattle.standard.specs.Refusals.{given-when, inOrder, orElse, Row, lowestFault}
+use Rattle.standard.specs.Refusals.{given-when, inOrder, orElse}
 use Rattle.standard.specs.Labels.{labelFault}
 use Rattle.standard.specs.Characters.{at}
 use Rattle.standard.specs.Slots.{isLabel, slotRefusal, slotsFrom, isUnreadable}
@@ -22,6 +22,7 @@ use Rattle.standard.specs.declared.Judged.the-variants.{Volume}
 use Rattle.promises.specs.Basics.{either, and-l, and-r, or-l, or-r}
 use Rattle.promises.specs.Lists.{Every}
 use Rattle.promises.specs.SectorLaws.{valid-correct, valid-sound}
+use Rattle.standard.specs.Rules.{Row, lowestFault}
 
 -- rules in order
 stopped-never : (r : Refusal) → Stopped r ≡ Passed → ⊥

@@ -10,8 +10,7 @@ use native.Mathlib.Nat.{div-add-mod', mod-self}
 use borrow.Author.Tests.{ltb-false, ltb-true, leb-true, eqb-true, lt-ltb}
 use Rattle.standard.specs.Files.{recordsToBlock}
 use Rattle.standard.specs.Characters.{bytes, oneOf, at, between, aSet}
-use Rattle.standard.specs.Labels.{level, knownLevel, anotherLevel, formatOf, isFixed, isVariable, isSpanned, blockLength, recordLength, isBlocked, rule40, rule23, rule63, rule54, hdr1Rules, labelFault}
-use Rattle.standard.specs.Pieces.{Format, fixed, variable, spanned}
+use Rattle.standard.specs.Labels.{level, knownLevel, anotherLevel, formatOf, isFixed, isVariable, isSpanned, blockLength, recordLength, isBlocked, rule40, rule23, rule63, rule54, hdr1Rules, labelFault, Format, fixed, variable, spanned}
 use Rattle.standard.specs.declared.Geometry.{Geometry}
 use Rattle.promises.specs.Basics.{by-test, true-not-false, and-l, and-r, or-rest, applies, applies-both}
 use Rattle.promises.specs.Judging.{rows-each}

@@ -13,10 +13,9 @@ use native.Mathlib.Nat.{le-refl, not-suc-le-zero}
 use borrow.Author.Tests.{leb-true, leb-false, ltb-false, le-leb, lt-leb, eqb-true, eqb-false, not-false, ne-eqb}
 use Rattle.standard.specs.Refusals.{refuse}
 use Rattle.standard.specs.Layout.{labelAt}
-use Rattle.standard.specs.Labels.{knownLevel, formatOf, blockLength, recordLength, isBlocked}
+use Rattle.standard.specs.Labels.{knownLevel, formatOf, blockLength, recordLength, isBlocked, Format, fixed, variable, spanned}
 use Rattle.standard.specs.Slots.{hasLabel}
 use Rattle.standard.specs.Judgement.{judged}
-use Rattle.standard.specs.Pieces.{Format, fixed, variable, spanned}
 use Rattle.standard.specs.Packing.{Laid, recordV, placeIf, lay, layOne, spreadIf, spread, least, startIf, layS, packIn, pack}
 use Rattle.standard.specs.Writing.{total, parted, wrongIn, wrongLength, lengthsFrom, packing, needed}
 use Rattle.standard.specs.declared.Geometry.{Geometry}

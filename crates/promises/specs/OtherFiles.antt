@@ -6,7 +6,7 @@ use mathlib.Core.Bool.{true}
 use mathlib.Core.List.{List}
 use native.Mathlib.Omega.{arith}
 use Rattle.standard.specs.Layout.{slotOrdinal, labelAt}
-use Rattle.standard.specs.Addresses.{index, ordinal}
+use Rattle.standard.specs.Addresses.{rank, ordinal}
 use Rattle.standard.specs.Labels.{startOf, endOf}
 use Rattle.standard.specs.Slots.{hasLabel}
 use Rattle.standard.specs.Judgement.{judged}
@@ -43,24 +43,24 @@ module _ (image : List ℕ) (g : Geometry) (slot : ℕ) (bodies lengths : List �
     k = labelAt g image other
 
     -- a record of the other file is no record of this one
-    apart : hasLabel g image other ≡ true → (a : Address) → Between g (index g (startOf k)) (index g (endOf k)) a
-        → (b : Address) → Between g (index g (startOf h)) (index g (endOf h)) b → NotOf g (ordinal g a) b
+    apart : hasLabel g image other ≡ true → (a : Address) → Between g (rank g (startOf k)) (rank g (endOf k)) a
+        → (b : Address) → Between g (rank g (startOf h)) (rank g (endOf h)) b → NotOf g (ordinal g a) b
     apart ho a p b q = (
       q .0,
       λ (e : ordinal g a ≡ ordinal g b).
-          let i : index g a ≡ index g b = ap (index g) (ordinal-inj g a b (p .0) (q .0) e) in
-          ne (labels-apart image g other slot (index g a) j ho (passing g image slot bodies lengths w .labelled)
-          (bounds-extent g k (index g a) (p .1) (p .2)) (bounds-extent g h (index g a) (omega (arith, q .1)) (omega (arith, q .2)))),
+          let i : rank g a ≡ rank g b = ap (rank g) (ordinal-inj g a b (p .0) (q .0) e) in
+          ne (labels-apart image g other slot (rank g a) j ho (passing g image slot bodies lengths w .labelled)
+          (bounds-extent g k (rank g a) (p .1) (p .2)) (bounds-extent g h (rank g a) (omega (arith, q .1)) (omega (arith, q .2)))),
     )
 
-    record-kept : hasLabel g image other ≡ true → (a : Address) → Between g (index g (startOf k)) (index g (endOf k)) a → SameSector g image t a
+    record-kept : hasLabel g image other ≡ true → (a : Address) → Between g (rank g (startOf k)) (rank g (endOf k)) a → SameSector g image t a
     record-kept ho a p =
         let r = label-range image g slot bodies lengths j w in
-        let B = Between g (index g (startOf h)) (index g (endOf h)) in
+        let B = Between g (rank g (startOf h)) (rank g (endOf h)) in
         result-sector image g slot bodies lengths j w (ordinal g a)
         (every-map B (NotOf g (ordinal g a)) (apart ho a p) (takenBy g image h (needed h bodies lengths))
         (every-take B (needed h bodies lengths * recordsToBlock g h) (goodRecords g image h)
-        (rising-every g (index g (startOf h)) (index g (endOf h)) (goodRecords g image h) (good-rising g h r image))))
+        (rising-every g (rank g (startOf h)) (rank g (endOf h)) (goodRecords g image h) (good-rising g h r image))))
         (λ (e : ordinal g a ≡ slotOrdinal slot).
         omega (arith, ordinal-ge g a (p .0), slot-in-index g slot (numbers-of image g j) (slot-inside image g slot bodies lengths j w)))
 
@@ -72,6 +72,6 @@ module _ (image : List ℕ) (g : Geometry) (slot : ℕ) (bodies lengths : List �
           label = λ ho. let i = has-slot g image other ho .1 in
               same-label g image t (numbers-of image g j) other i (other-sector image g slot bodies lengths j w other i ne);
           sectors = λ ho.
-              every-map (Between g (index g (startOf k)) (index g (endOf k))) (SameSector g image t) (record-kept ho) (extent g k)
-              (rising-every g (index g (startOf k)) (index g (endOf k)) (extent g k) (extent-rising g k (label-in-range image g other j ho)));
+              every-map (Between g (rank g (startOf k)) (rank g (endOf k))) (SameSector g image t) (record-kept ho) (extent g k)
+              (rising-every g (rank g (startOf k)) (rank g (endOf k)) (extent g k) (extent-rising g k (label-in-range image g other j ho)));
         }

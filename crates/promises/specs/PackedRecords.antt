@@ -10,8 +10,7 @@ use lib.Dec.{leb, ltb, eqb}
 use native.Mathlib.Omega.{arith}
 use native.Mathlib.Nat.{not-suc-le-zero, le-refl, div-add-mod', mul-mod-left}
 use borrow.Author.Tests.{leb-true, leb-false, ltb-false, le-leb, eqb-true, eqb-false, not-false, ne-eqb}
-use Rattle.standard.specs.Labels.{isVariable, isSpanned, formatOf, blockLength, recordLength, isBlocked}
-use Rattle.standard.specs.Pieces.{Format, fixed, variable, spanned}
+use Rattle.standard.specs.Labels.{isVariable, isSpanned, formatOf, blockLength, recordLength, isBlocked, Format, fixed, variable, spanned}
 use Rattle.standard.specs.Records.{plain, readAll}
 use Rattle.standard.specs.Packing.{Laid, recordV, lay, layOne, spread, least, layS, pack, fileOf}
 use Rattle.standard.specs.Refusals.{refuse}

@@ -11,8 +11,9 @@ use native.Mathlib.Omega.{arith}
 use native.Mathlib.Nat.{le-refl}
 use borrow.Author.Tests.{lt-ltb, le-ltb}
 use Rattle.standard.specs.Layout.{labelAt}
-use Rattle.standard.specs.Pieces.{Block, lostBlock, held, Params, Token, part, bad, lost, pieces, inBlock, inBlocks}
-use Rattle.standard.specs.Records.{plain, File, Record, State, fresh, Move, deliver, carry, breach, meet, Item, rec, no, end, start, refuse20, refuse21, readAll, joinMove, join, listed}
+use Rattle.standard.specs.Pieces.{Block, lostBlock, held, Token, part, bad, lost, pieces, inBlock, inBlocks}
+use Rattle.standard.specs.Records.{plain, File, Record, State, fresh, Move, deliver, carry, breach, meet, Item, rec, no, end, refuse20, refuse21, readAll, joinMove, join, listed}
+use Rattle.standard.specs.Places.{start}
 use Rattle.standard.specs.Judgement.{judged}
 use Rattle.standard.specs.Files.{blockCount, fileIn}
 use Rattle.standard.specs.Damage.{damage, damaged}
@@ -28,6 +29,7 @@ use Rattle.promises.specs.Failing.{Failed, OfBlocks, Spares, gone, Reads
 use Rattle.promises.specs.FollowingLaws.{following-listed}
 use Rattle.promises.specs.SalvageImage.{file-count}
 use Rattle.promises.specs.Promises.{SalvagePromise, SalvageAnyPromise, salvage-promise, salvage-any-promise}
+use Rattle.standard.specs.Labels.{Params}
 
 -- of n blocks, b is the first that is gone
 pub record FirstGone (gone : ℕ → Bool) (n b : ℕ) : Type 0 where

@@ -19,7 +19,7 @@ use Rattle.standard.specs.declared.Checked.the-variants.{Passed}
 use Rattle.standard.specs.declared.Judged.the-variants.{Volume}
 use Rattle.standard.specs.Refusals.{given-when}
 use Rattle.standard.specs.Characters.{at, isSpace, number}
-use Rattle.standard.specs.Addresses.{legal, index}
+use Rattle.standard.specs.Addresses.{legal, rank}
 use Rattle.standard.specs.Labels.{knownLevel, blockLength, unusedCount, startOf, endOf, paramsOf}
 use Rattle.standard.specs.Pieces.{held}
 use Rattle.standard.specs.Packing.{fileOf}
@@ -167,7 +167,7 @@ module _ (image : List ℕ) (g : Geometry) (slot : ℕ) (bodies lengths : List �
       let r = good-rising g h range image in
       holds-same g (recordsToBlock g h) st t cs (goodRecords g image h)
       (every-map (Legal g) (SameSector g st t) set-same (goodRecords g image h) (good-legal g h range image))
-      (stored-holds g (recordsToBlock g h) (index g (startOf h)) (index g (endOf h)) cs (goodRecords g image h) image r enough-records fitting (image-length image g j))
+      (stored-holds g (recordsToBlock g h) (rank g (startOf h)) (rank g (endOf h)) cs (goodRecords g image h) image r enough-records fitting (image-length image g j))
 
   blocks-back : (ds : List (List ℕ)) → Sized (blockLength h) U ds → Holds g (recordsToBlock g h) t ds (goodRecords g image h)
       → blocksFrom g t k (length ds) (goodRecords g image h) ≡ map held ds

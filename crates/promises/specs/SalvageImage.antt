@@ -8,7 +8,8 @@ use lib.ListN.{length, take, drop}
 use lib.Dec.{eqb}
 use Rattle.standard.specs.Layout.{indexSectors, labelAt}
 use Rattle.standard.specs.Addresses.{ordinal}
-use Rattle.standard.specs.Records.{plain, salvage, Record, Item, rec, gap, end, start, readAll, listed, records}
+use Rattle.standard.specs.Records.{plain, salvage, Record, Item, rec, gap, end, readAll, listed, records}
+use Rattle.standard.specs.Places.{start}
 use Rattle.standard.specs.Judgement.{judged}
 use Rattle.standard.specs.Files.{goodRecords, blockCount, blocksFrom, openRefusal, fileIn, recordsToBlock}
 use Rattle.standard.specs.Damage.{damaged, spared, endingIn, remains, recordsIn, gapsIn, goneOf}

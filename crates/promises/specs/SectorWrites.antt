@@ -9,7 +9,7 @@ use lib.ListN.{length, getD, take, drop, length-append, length-take, length-drop
 use lib.Seq.{getD-take, getD-drop, length-take-le, take-at, take-add, ext-getD}
 use native.Mathlib.Omega.{arith}
 use Rattle.standard.specs.Layout.{kAt, kindOffset, indexSectors, imageLength, slotOrdinal, labelOffset, labelAt, bodyOffset}
-use Rattle.standard.specs.Addresses.{legal, index, ordinal, fiveBytes, addressNumber}
+use Rattle.standard.specs.Addresses.{legal, rank, ordinal, fiveBytes, addressNumber}
 use Rattle.standard.specs.Labels.{startOf, endOf}
 use Rattle.standard.specs.Judgement.{judged}
 use Rattle.standard.specs.Files.{goodRecords, recordsToBlock}
@@ -265,11 +265,11 @@ follows-apart g lo hi [] [] r h = tt
 follows-apart g lo hi [] (w ∷ ws) r h = absurd h
 follows-apart g lo hi (a ∷ xs) [] r h = absurd h
 follows-apart g lo hi (a ∷ xs) (w ∷ ws) r h = (
-  follows-each g (Clear w) (Between g (suc (index g a)) hi) (λ b v d o l. clear b v d o l) xs ws (rising-every g (suc (index g a)) hi xs (r .3)) (h .2),
-  follows-apart g (suc (index g a)) hi xs ws (r .3) (h .2),
+  follows-each g (Clear w) (Between g (suc (rank g a)) hi) (λ b v d o l. clear b v d o l) xs ws (rising-every g (suc (rank g a)) hi xs (r .3)) (h .2),
+  follows-apart g (suc (rank g a)) hi xs ws (r .3) (h .2),
 )
   where
-    clear : (b : Address) (v : Write) → Between g (suc (index g a)) hi b → v .offset ≡ kindOffset g (ordinal g b) → length (v .bytes) ≡ g .P + 1 → Clear w v
+    clear : (b : Address) (v : Write) → Between g (suc (rank g a)) hi b → v .offset ≡ kindOffset g (ordinal g b) → length (v .bytes) ≡ g .P + 1 → Clear w v
     clear b v d o l =
         let sa = address-size g a (r .0) in
         let sb = address-size g b (d .0) in
@@ -350,8 +350,8 @@ module _ (image : List ℕ) (g : Geometry) (slot : ℕ) (bodies lengths : List �
   pub writes-apart : Apart (writesOf g image slot (packing theLabel bodies lengths))
   unfolding writesOf
   writes-apart =
-      let lo = index g (startOf theLabel) in
-      let hi = index g (endOf theLabel) in
+      let lo = rank g (startOf theLabel) in
+      let hi = rank g (endOf theLabel) in
       let r = rising-take g lo hi (blocks * recordsToBlock g theLabel) (goodRecords g image theLabel) (good-rising g theLabel (label-range image g slot bodies lengths j w) image) in
       let f = label-fits in
       apart-more recordWrites labelWrite

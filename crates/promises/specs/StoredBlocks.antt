@@ -9,7 +9,7 @@ use lib.Seq.{take-all, take-append-seam, take-append-add, length-take-le}
 use native.Mathlib.Omega.{arith}
 use native.Mathlib.Nat.{not-suc-le-zero}
 use Rattle.standard.specs.Layout.{bodyAt, checkFailed}
-use Rattle.standard.specs.Addresses.{legal, index, ordinal}
+use Rattle.standard.specs.Addresses.{legal, rank, ordinal}
 use Rattle.standard.specs.Labels.{blockLength, unusedCount}
 use Rattle.standard.specs.Pieces.{Block, held}
 use Rattle.standard.specs.Files.{recordsToBlock, anyFailed, bytesOf, blockOf, blocksFrom}
@@ -48,7 +48,7 @@ in-two P c X h =
 
 module _ (g : Geometry) where
   -- addresses behind one
-  behind : (a : Address) → legal g a ≡ true → (lo hi : ℕ) → index g a < lo → (xs : List Address) → Rising g lo hi xs → Every (NotOf g (ordinal g a)) xs
+  behind : (a : Address) → legal g a ≡ true → (lo hi : ℕ) → rank g a < lo → (xs : List Address) → Rising g lo hi xs → Every (NotOf g (ordinal g a)) xs
   behind a la lo hi l xs r =
       every-map (Between g lo hi) (NotOf g (ordinal g a)) (λ b k. (k .0, addresses-apart g a la b (k .0) (omega (arith, k .1)))) xs (rising-every g lo hi xs r)
 
@@ -56,8 +56,8 @@ module _ (g : Geometry) where
   front-back zero lo hi xs r = tt
   front-back (suc m) lo hi [] r = tt
   front-back (suc m) lo hi (a ∷ xs) r = (
-    behind a (r .0) (suc (index g a)) hi (omega arith) (drop m xs) (rising-drop g (suc (index g a)) hi m xs (r .3)),
-    front-back m (suc (index g a)) hi xs (r .3),
+    behind a (r .0) (suc (rank g a)) hi (omega arith) (drop m xs) (rising-drop g (suc (rank g a)) hi m xs (r .3)),
+    front-back m (suc (rank g a)) hi xs (r .3),
   )
 
   -- one block
@@ -72,7 +72,7 @@ module _ (g : Geometry) where
     one-whole = store-length g a (take (g .P) c) s (r .0) small l ∙ l
 
     rest-same : SameSector g one (storeBlock g xs (drop (g .P) c) one) a
-    rest-same = block-other g one one-whole (ordinal g a) xs (drop (g .P) c) (behind a (r .0) (suc (index g a)) hi (omega arith) xs (r .3))
+    rest-same = block-other g one one-whole (ordinal g a) xs (drop (g .P) c) (behind a (r .0) (suc (rank g a)) hi (omega arith) xs (r .3))
 
     head-body : bodyAt g (storeBlock g xs (drop (g .P) c) one) (ordinal g a) ≡ filledTo (g .P) (take (g .P) c)
     head-body = sym (same-body g one (storeBlock g xs (drop (g .P) c) one) (ordinal g a) rest-same) ∙ store-body g a (take (g .P) c) s (r .0) small l
@@ -89,7 +89,7 @@ module _ (g : Geometry) where
   unfolding bytesOf storeBlock
   block-bytes [] lo hi c s r l h = nothing c [] (omega arith)
   block-bytes (a ∷ xs) lo hi c s r l h =
-      let ih = block-bytes xs (suc (index g a)) hi (drop (g .P) c) (one a xs lo hi c s r l) (r .3) (one-whole a xs lo hi c s r l)
+      let ih = block-bytes xs (suc (rank g a)) hi (drop (g .P) c) (one a xs lo hi c s r l) (r .3) (one-whole a xs lo hi c s r l)
       (omega (arith, length-drop (g .P) c)) in
       rw (head-body a xs lo hi c s r l) (in-two (g .P) c _ ih)
 
@@ -98,7 +98,7 @@ module _ (g : Geometry) where
   block-sound [] lo hi c s r l = refl
   block-sound (a ∷ xs) lo hi c s r l =
       rw (head-sound a xs lo hi c s r l)
-      (block-sound xs (suc (index g a)) hi (drop (g .P) c) (one a xs lo hi c s r l) (r .3) (one-whole a xs lo hi c s r l))
+      (block-sound xs (suc (rank g a)) hi (drop (g .P) c) (one a xs lo hi c s r l) (r .3) (one-whole a xs lo hi c s r l))
 
   block-held : (xs : List Address) (lo hi : ℕ) (c s : List ℕ) → Rising g lo hi xs → WholeImage g s → length c ≤ length xs * g .P
       → blockOf g (storeBlock g xs c s) (length c) xs ≡ held c

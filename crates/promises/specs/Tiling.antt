@@ -7,7 +7,7 @@ use mathlib.Core.Logic.{inl, inr}
 use native.Mathlib.Omega.{arith}
 use borrow.Author.Tests.{lt-ltb, le-ltb}
 use Rattle.standard.specs.Layout.{ordinalAt, indexSectors, sectorCount, bodySize, kindOffset, bodyOffset, imageLength, slotOrdinal}
-use Rattle.standard.specs.Addresses.{legal, index, ordinal}
+use Rattle.standard.specs.Addresses.{legal, rank, ordinal}
 use Rattle.standard.specs.declared.Geometry.{Geometry}
 use Rattle.standard.specs.declared.Address.{Address}
 use Rattle.promises.specs.Basics.{either, lt-or-le}
@@ -98,8 +98,8 @@ module _ (g : Geometry) where
     pub address-room : bodyOffset g (ordinal g a) + g .P ≤ imageLength g
     address-room = omega (arith, sector-in-image (ordinal g a) address-inside, address-size)
 
-    pub addresses-apart : (b : Address) → legal g b ≡ true → index g a < index g b → (ordinal g a ≡ ordinal g b → ⊥)
-    addresses-apart b hb l e = omega (arith, ap (index g) (ordinal-inj g a b h hb e))
+    pub addresses-apart : (b : Address) → legal g b ≡ true → rank g a < rank g b → (ordinal g a ≡ ordinal g b → ⊥)
+    addresses-apart b hb l e = omega (arith, ap (rank g) (ordinal-inj g a b h hb e))
 
   -- the slots: "08 to I are label slots 1 to I-7. On two-sided volumes, side 1 sectors 01 to I continue the slots."
   pub slot-side-0 : (slot : ℕ) → slotOrdinal slot ≡ ordinalAt g 0 0 (slot + 7)

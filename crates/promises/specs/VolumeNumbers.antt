@@ -10,7 +10,6 @@ use native.Mathlib.Nat.{one-le-pow, mul-le-mul-right, pow-le-pow-right}
 use borrow.Author.Tests.{ltb-false, leb-true, eqb-true, ltb-true}
 use Rattle.standard.specs.Layout.{sectorCount, indexSectors, imageLength, slotCount, slotOrdinal, labelOffset, vol1Of, ermapOf}
 use Rattle.standard.specs.Characters.{bytes, oneOf, at, isSpace, field, hexDigits, hex, spaces}
-use Rattle.standard.specs.Refusals.{lowestFault}
 use Rattle.standard.specs.Volume.{hexBetween, vol1Rules, volumeK}
 use Rattle.standard.specs.Judgement.{numbersIn, volumeOf, judged}
 use Rattle.standard.specs.declared.Geometry.{Geometry}
@@ -19,6 +18,7 @@ use Rattle.promises.specs.Basics.{true-not-false, and-l, and-r}
 use Rattle.promises.specs.Tiling.{size-index, sector-in-image}
 use Rattle.promises.specs.Judging.{not-given, rows-each, accepted}
 use Rattle.standard.specs.Defects.{ermapRule11, ermapRules, defect1, defect2, isCylinder, cylinderIn}
+use Rattle.standard.specs.Rules.{lowestFault}
 
 pub record Numbers (g : Geometry) : Type 0 where
   pub cylinders : g .L ≤ 96

@@ -7,7 +7,7 @@ use mathlib.Core.List.{List, List·Memᴰ}
 use lib.ListN.{length}
 use native.Mathlib.Omega.{arith}
 use Rattle.standard.specs.Layout.{indexSectors, sectorCount, bodyOffset, labelAt}
-use Rattle.standard.specs.Addresses.{legal, index, ordinal}
+use Rattle.standard.specs.Addresses.{legal, rank, ordinal}
 use Rattle.standard.specs.Labels.{startOf, endOf}
 use Rattle.standard.specs.Slots.{hasLabel}
 use Rattle.standard.specs.Free.{inExtent}
@@ -26,12 +26,12 @@ use Rattle.promises.specs.VolumeNumbers.{defects-in-order}
 use Rattle.standard.specs.Defects.{physical}
 
 -- the addresses of an extent are legal, and their numbers are those from its start to its end
-pub in-extent : (g : Geometry) (h : List ℕ) (b : Address) → InRange g h → List·Memᴰ b (extent g h) → (legal g b ≡ true) × (inExtent g h (index g b) ≡ true)
+pub in-extent : (g : Geometry) (h : List ℕ) (b : Address) → InRange g h → List·Memᴰ b (extent g h) → (legal g b ≡ true) × (inExtent g h (rank g b) ≡ true)
 in-extent g h b r m =
-    let lo = index g (startOf h) in
-    let hi = index g (endOf h) in
+    let lo = rank g (startOf h) in
+    let hi = rank g (endOf h) in
     let w = every-member (Between g lo hi) (extent g h) b (rising-every g lo hi (extent g h) (extent-rising g h r)) m in
-    (w .0, bounds-extent g h (index g b) (w .1) (w .2))
+    (w .0, bounds-extent g h (rank g b) (w .1) (w .2))
 
 -- EVERY LABEL'S EXTENT IS IN RANGE: its start and end are addresses of the volume and in order, and so is each address of it; each is in a sector of the
 -- image, behind the index cylinder, and on no defective cylinder.
@@ -65,7 +65,7 @@ no-record-shared image g slot other a b j hs ho ma mb e =
     let x = in-extent g (labelAt g image slot) a (label-in-range image g slot j hs) ma in
     let y = in-extent g (labelAt g image other) b (label-in-range image g other j ho) mb in
     let q = ordinal-inj g a b (x .0) (y .0) e in
-    labels-apart image g slot other (index g b) j hs ho (subst (λ (c : Address). inExtent g (labelAt g image slot) (index g c) ≡ true) q (x .1)) (y .1)
+    labels-apart image g slot other (rank g b) j hs ho (subst (λ (c : Address). inExtent g (labelAt g image slot) (rank g c) ≡ true) q (x .1)) (y .1)
 
 -- the file in a slot of an accepted volume, as the readings have it
 pub file-at : (image : List ℕ) (g : Geometry) (slot : ℕ) → judged image ≡ Volume g → fileAt image slot ≡ fileIn g image (labelAt g image slot)

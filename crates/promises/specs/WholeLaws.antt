@@ -9,7 +9,8 @@ use lib.Dec.{ltb}
 use native.Mathlib.Omega.{arith}
 use Rattle.standard.specs.Refusals.{refuse}
 use Rattle.standard.specs.Layout.{labelAt}
-use Rattle.standard.specs.Records.{Mode, plain, Record, Item, rec, gap, end, no, start, records}
+use Rattle.standard.specs.Records.{Mode, plain, Record, Item, rec, gap, end, no, records}
+use Rattle.standard.specs.Places.{start}
 use Rattle.standard.specs.Judgement.{judged}
 use Rattle.standard.specs.Files.{openRefusal, fileIn}
 use Rattle.standard.specs.Reading.{Reply, unanswered, reply, laidOver}

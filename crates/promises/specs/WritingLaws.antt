@@ -11,7 +11,7 @@ use lib.Dec.{leb, ltb, eqb}
 use native.Mathlib.Omega.{arith}
 use native.Mathlib.Nat.{not-suc-le-zero, le-refl}
 use borrow.Author.Tests.{le-leb, lt-leb, leb-true, leb-false, ne-eqb, lt-ltb, ltb-true}
-use Rattle.standard.specs.Pieces.{held, fixed, variable, spanned, Params, Role, whole, first, middle, last, blank, piece, isFill, number4, four, roleOf, lookF, lookV, lookS, look, Token, part, afterPart, pieces, inBlock, inBlocks}
+use Rattle.standard.specs.Pieces.{held, Role, whole, first, middle, last, blank, piece, isFill, number4, four, roleOf, lookF, lookV, lookS, look, Token, part, afterPart, pieces, inBlock, inBlocks}
 use Rattle.standard.specs.Records.{plain, State, fresh, within, over, meet, Item, readAll, joinMove, join, listed}
 use Rattle.standard.specs.Packing.{Laid, then, thenNext, fill, roleByte, recordV, segment, lay, layOne, segmentRole, spread, least, layS, pack, fileOf}
 use Rattle.standard.specs.Characters.{digitValue, padded}
@@ -19,6 +19,7 @@ use Rattle.promises.specs.Lists.{Every}
 use Rattle.promises.specs.PiecesLaws.{look-nil, pieces-eq}
 use Rattle.promises.specs.ReadingLaws.{readAll-listed, Reads, reads-cons}
 use Rattle.promises.specs.Digits.{digit-is}
+use Rattle.standard.specs.Labels.{fixed, variable, spanned, Params}
 
 -- ---- four digits, there and back
 

@@ -12,7 +12,8 @@ use borrow.Author.Tests.{le-ltb}
 use Rattle.standard.specs.Layout.{labelAt}
 use Rattle.standard.specs.Refusals.{refuse}
 use Rattle.standard.specs.Judgement.{judged}
-use Rattle.standard.specs.Records.{Mode, plain, salvage, Record, Item, rec, end, start, readAll, listed}
+use Rattle.standard.specs.Records.{Mode, plain, salvage, Record, Item, rec, end, readAll, listed}
+use Rattle.standard.specs.Places.{start}
 use Rattle.standard.specs.Files.{fileIn, fileAt}
 use Rattle.standard.specs.Writing.{total, parted, writeRefusal, imageAfter}
 use Rattle.standard.specs.declared.Geometry.{Geometry}

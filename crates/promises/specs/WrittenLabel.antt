@@ -10,7 +10,7 @@ use native.Mathlib.Nat.{mul-le-mul-right, le-div-iff-mul-le}
 use borrow.Author.Tests.{ltb-true, lt-ltb, le-ltb, eq-eqb}
 use Rattle.standard.specs.Characters.{field, spaces, digits}
 use Rattle.standard.specs.Layout.{labelAt}
-use Rattle.standard.specs.Addresses.{index, before, addressIn, isDataEnd, fiveBytes}
+use Rattle.standard.specs.Addresses.{rank, before, addressIn, isDataEnd, fiveBytes}
 use Rattle.standard.specs.Labels.{formatOf, isFixed, blockLength, recordLength, unusedCount, isBlocked, startOf, endOf, dataEndOf, rule23, rule29, rule40, rule54, rule63, rule58, rule75, labelFault}
 use Rattle.standard.specs.Judgement.{judged}
 use Rattle.standard.specs.Files.{goodRecords, recordsToBlock, blocksHeld}
@@ -133,9 +133,9 @@ module _ (image : List ℕ) (g : Geometry) (slot : ℕ) (bodies lengths : List �
   new75 =
       let r = ends .right in
       let c1 : isDataEnd g (field k 75 79) ≡ true = rw (result-end image g slot bodies lengths j w, five-digits e, end-back) (r .either-way) in
-      let c2 : (not (rule29 g k) || not (ltb (index g (dataEndOf k)) (index g (startOf k)))) ≡ true =
-      or-right (not (rule29 g k)) (not (ltb (index g (dataEndOf k)) (index g (startOf k))))
-      (rw (new-end, f29 h k alike, le-ltb (index g e) (index g (startOf h)) (ends .behind))) in
+      let c2 : (not (rule29 g k) || not (ltb (rank g (dataEndOf k)) (rank g (startOf k)))) ≡ true =
+      or-right (not (rule29 g k)) (not (ltb (rank g (dataEndOf k)) (rank g (startOf k))))
+      (rw (new-end, f29 h k alike, le-ltb (rank g e) (rank g (startOf h)) (ends .behind))) in
       rw (c1, c2)
 
   -- THE NEW LABEL BREAKS NO RULE

@@ -31,11 +31,11 @@ unfoldable pub legal : Geometry → Address → Bool
 legal g a = between 1 (g .L) (a .cylinder) && ltb (a .side) (g .S) && between 1 (g .D) (a .sector)
 
 -- "Sector counts fastest, then side, then cylinder." The number of an address, from 0; and the order.
-unfoldable pub index : Geometry → Address → ℕ
-index g a = ((a .cylinder - 1) * g .S + a .side) * g .D + (a .sector - 1)
+unfoldable pub rank : Geometry → Address → ℕ
+rank g a = ((a .cylinder - 1) * g .S + a .side) * g .D + (a .sector - 1)
 
 unfoldable pub before : Geometry → Address → Address → Bool
-before g a b = ltb (index g a) (index g b)
+before g a b = ltb (rank g a) (rank g b)
 
 abbrev pub addressCount : Geometry → ℕ
 addressCount g = g .L * g .S * g .D

@@ -7,16 +7,16 @@ use mathlib.Core.List.{List, [], _∷_, _++_, map}
 use lib.ListN.{replicate}
 use Prim.Native.String.{String}
 use Rattle.standard.specs.Characters.{bytes, oneOf, same, every, aSet, isDigit, digitValue, numberFrom, spacesOrNumber, padded, shownBy, shown}
-use Rattle.standard.specs.Refusals.{lowestFault}
-use Rattle.standard.specs.Addresses.{fiveDigits, addressIn, legal, index, before, pastLast, isAddress, isDataEnd, fiveBytes}
-use Rattle.standard.specs.Labels.{knownLevel, anotherLevel, recordLength, unusedCount, rule44, rule6, rule29, rule35, rule40, rule23, rule63, rule41, rule42, rule43, rule45, rule46, spacesOrDate, rule48, rule67, rule54, rule58, rule64, rule73, rule75, hdr1Rules, labelFault}
+use Rattle.standard.specs.Addresses.{fiveDigits, addressIn, legal, rank, before, pastLast, isAddress, isDataEnd, fiveBytes}
+use Rattle.standard.specs.Labels.{knownLevel, anotherLevel, recordLength, unusedCount, rule44, rule6, rule29, rule35, rule40, rule23, rule63, rule41, rule42, rule43, rule45, rule46, spacesOrDate, rule48, rule67, rule54, rule58, rule64, rule73, rule75, hdr1Rules, labelFault, fixed, variable, spanned}
 use Rattle.standard.specs.Judgement.{overlap}
-use Rattle.standard.specs.Pieces.{Block, lostBlock, held, fixed, variable, spanned, number4, roleOf, lookF, lookV, lookS, look, walk, pieces, inBlock, inBlocks, ahead}
+use Rattle.standard.specs.Pieces.{Block, lostBlock, held, number4, roleOf, lookF, lookV, lookS, look, walk, pieces, inBlock, inBlocks, ahead}
 use Rattle.standard.specs.Records.{plain, salvage, File, Record, took, ended, refused, refuse20, refuse21, refuse22, answer, step, rec, gap, end, no, enough, readOn, readAll}
 use Rattle.standard.specs.Packing.{Packing, segment, spread, layS, pack}
 use Rattle.standard.specs.Writing.{unusedField}
 use Rattle.standard.specs.declared.Geometry.{Geometry}
 use Rattle.standard.specs.declared.Place.{Place}
+use Rattle.standard.specs.Rules.{lowestFault}
 
 -- files of V with R = 8, of S with some R, of F with some R; a block of a text and so many bytes of fill behind it
 abbrev ofV : Bool → List Block → File
@@ -140,7 +140,7 @@ pub edges-overlap :
     × (shared "01101" "01108" ≡ false)
     × (shared "01001" "05108" ≡ true)
     × (shared "02002" "02003" ≡ true)
-unfolding digitValue addressIn index overlap
+unfolding digitValue addressIn rank overlap
 edges-overlap = (refl, refl, refl, refl, refl, refl)
 
 -- HDR1 of a file from 02001 to 03008 with an empty data end: format, level, B, R, U and position 63 as given
@@ -174,7 +174,7 @@ pub edges-rules :
     -- "V and S at most 9,999 (house)", "at most D·P"
     × (faultOf "V" "2" "01024" "0100" "     " "B" ≡ 0)
     × (faultOf "V" "2" "01152" "0100" "     " "B" ≡ 23)
-unfolding oneOf same every aSet isDigit digitValue numberFrom spacesOrNumber lowestFault fiveDigits addressIn legal index before pastLast isAddress isDataEnd knownLevel anotherLevel recordLength unusedCount rule44 rule6 rule29 rule35 rule40 rule23 rule63 rule41 rule42 rule43 rule45 rule46 spacesOrDate rule48 rule67 rule54 rule58 rule64 rule73 rule75 hdr1Rules labelFault
+unfolding oneOf same every aSet isDigit digitValue numberFrom spacesOrNumber lowestFault fiveDigits addressIn legal rank before pastLast isAddress isDataEnd knownLevel anotherLevel recordLength unusedCount rule44 rule6 rule29 rule35 rule40 rule23 rule63 rule41 rule42 rule43 rule45 rule46 spacesOrDate rule48 rule67 rule54 rule58 rule64 rule73 rule75 hdr1Rules labelFault
 edges-rules = (refl, refl, refl, refl, refl, refl, refl, refl, refl, refl, refl, refl, refl)
 
 pub edges-fields :

@@ -9,7 +9,7 @@ use lib.Dec.{eqb}
 use Rattle.standard.specs.Characters.{bytes, isDigit, digitValue, padded}
 use Rattle.standard.specs.Defects.{skipOne, physical}
 use Rattle.standard.specs.Addresses.{addressIn, stepped}
-use Rattle.standard.specs.Pieces.{variable, spanned, Params, number4, roleOf, lookV, lookS, look, walk, pieces, inBlock, inBlocks, ahead}
+use Rattle.standard.specs.Pieces.{number4, roleOf, lookV, lookS, look, walk, pieces, inBlock, inBlocks, ahead}
 use Rattle.standard.specs.Records.{salvage, Item, rec, gap, end, answer, step, enough, readOn, readAll}
 use Rattle.standard.specs.Files.{addressesFrom}
 use Rattle.standard.specs.Packing.{Packing, recordV, segment, lay, layOne, spread, layS, pack, fileOf}
@@ -17,6 +17,7 @@ use Rattle.standard.specs.Writing.{nextDataEnd}
 use Rattle.standard.specs.Damage.{damage, damaged}
 use Rattle.standard.specs.declared.Geometry.{Geometry}
 use Rattle.standard.specs.declared.Address.{Address}
+use Rattle.standard.specs.Labels.{variable, spanned, Params}
 
 -- a volume with L, D, S and defects d1, d2; an address by its five digits
 abbrev volume : ℕ → ℕ → ℕ → ℕ → ℕ → Geometry

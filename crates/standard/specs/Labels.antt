@@ -5,11 +5,10 @@ use mathlib.Core.Bool.{Bool, cond, not, _&&_, _||_}
 use mathlib.Core.List.{List, [], _∷_}
 use lib.Dec.{leb, ltb, eqb}
 use Rattle.standard.specs.Characters.{bytes, byte, between, oneOf, same, field, at, aSet, inASet, isSpace, spaces, digits, number, spacesOrNumber}
-use Rattle.standard.specs.Refusals.{Row, row, lowestFault}
 use Rattle.standard.specs.Addresses.{addressIn, before, isAddress, isDataEnd}
-use Rattle.standard.specs.Pieces.{Format, fixed, variable, spanned, Params}
 use Rattle.standard.specs.declared.Geometry.{Geometry}
 use Rattle.standard.specs.declared.Address.{Address}
+use Rattle.standard.specs.Rules.{Row, row, lowestFault}
 
 -- What the fields say.
 
@@ -45,6 +44,9 @@ abbrev pub endOf : List ℕ → Address
 endOf h = addressIn (field h 35 39)
 
 -- "40 space or F (fixed), V, S"
+pub data Format : Type 0 where
+  fixed variable spanned : Format
+
 unfoldable pub formatOf : List ℕ → Format
 formatOf h = cond (eqb (at h 40) (byte "V")) variable (cond (eqb (at h 40) (byte "S")) spanned fixed)
 
@@ -210,6 +212,11 @@ hdr1Rules g h =
 unfoldable pub labelFault : Geometry → List ℕ → ℕ
 labelFault g h = lowestFault (hdr1Rules g h)
 
--- what of the label the content rules read
+-- what of the label the content rules read: format, R, blocked
+pub record Params : Type 0 where
+  pub format : Format
+  pub R : ℕ
+  pub blocked : Bool
+
 abbrev pub paramsOf : List ℕ → Params
 paramsOf h = record { format = formatOf h; R = recordLength h; blocked = isBlocked h }

@@ -2,6 +2,7 @@
 pub mod Layout
 -- VOL1 and ERMAP
 pub mod Characters
+pub mod Rules
 pub mod Volume
 pub mod Defects
 -- HDR1

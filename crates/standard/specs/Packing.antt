@@ -7,8 +7,9 @@ use mathlib.Core.List.{List, [], _∷_, _++_, map}
 use lib.ListN.{length, take, drop, replicate}
 use lib.Dec.{leb}
 use Rattle.standard.specs.Characters.{byte, padded}
-use Rattle.standard.specs.Pieces.{held, Format, fixed, variable, spanned, Params, Role, whole, first, middle, last}
+use Rattle.standard.specs.Pieces.{held, Role, whole, first, middle, last}
 use Rattle.standard.specs.Records.{File}
+use Rattle.standard.specs.Labels.{Format, fixed, variable, spanned, Params}
 
 -- What is laid from some point of a block on: the rest of that block, the blocks behind it, and U.
 pub record Laid : Type 0 where

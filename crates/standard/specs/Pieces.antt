@@ -7,6 +7,7 @@ use mathlib.Core.List.{List, [], _∷_, _++_}
 use lib.ListN.{length, getD, take, drop}
 use lib.Dec.{leb, ltb, eqb}
 use Rattle.standard.specs.Characters.{byte, isDigit, digitValue}
+use Rattle.standard.specs.Labels.{Format, fixed, variable, spanned, Params}
 
 -- "A block's content is its first B bytes; B-U in the last." "A lost block contains a check-failed record": of it only the size of its content counts.
 pub data Block : Type 0 where
@@ -16,15 +17,6 @@ pub data Block : Type 0 where
 abbrev pub sizeOf : Block → ℕ
 sizeOf (lostBlock n) = n
 sizeOf (held c) = length c
-
-pub data Format : Type 0 where
-  fixed variable spanned : Format
-
--- what of the label the content rules read: format, R, blocked
-pub record Params : Type 0 where
-  pub format : Format
-  pub R : ℕ
-  pub blocked : Bool
 
 -- The marks 0 to 3 of a segment. A record of F or V is a whole.
 pub data Role : Type 0 where

@@ -5,11 +5,12 @@ use mathlib.Core.Bool.{Bool, true, false, cond, _&&_}
 use mathlib.Core.List.{List, [], _∷_, _++_}
 use lib.ListN.{length, getD}
 use lib.Dec.{leb, ltb, eqb}
-use Rattle.standard.specs.Pieces.{Block, lostBlock, held, sizeOf, Format, fixed, variable, spanned, Params, Role, whole, first, middle, last, Token, part, bad, lost, inBlocks, ahead}
+use Rattle.standard.specs.Pieces.{Block, lostBlock, held, sizeOf, Role, whole, first, middle, last, Token, part, bad, lost, inBlocks, ahead}
 use Rattle.standard.specs.Refusals.{refuse, refuseAt}
-use Rattle.standard.specs.Places.{startPlace}
+use Rattle.standard.specs.Places.{start}
 use Rattle.standard.specs.declared.Refusal.{Refusal}
 use Rattle.standard.specs.declared.Place.{Place}
+use Rattle.standard.specs.Labels.{Format, fixed, variable, spanned, Params}
 
 -- plain reading, and salvage
 pub data Mode : Type 0 where
@@ -134,10 +135,6 @@ pub data Item : Type 0 where
   gap : (block : ℕ) → Item
   end : Item
   no : Refusal → Item
-
--- "Start is (0, 0)."
-abbrev pub start : Place
-start = startPlace
 
 abbrev pub follow : Met → (Place → List Item) → List Item
 follow (took r pl) more = rec r ∷ more pl

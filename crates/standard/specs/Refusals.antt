@@ -27,16 +27,3 @@ inOrder (Stopped r ∷ rest) = Stopped r
 unfoldable pub orElse : Checked → Checked → Checked
 orElse Passed rest = rest
 orElse (Stopped r) rest = Stopped r
-
--- "In all three labels a fault is reported at its field's first position, the lowest first." A row of a label's table is the position and whether the
--- rule holds; the rows stand in ascending order. 0 where every rule holds.
-pub record Row : Type 0 where
-  pub position : ℕ
-  pub holds : Bool
-
-abbrev pub row : ℕ → Bool → Row
-row position holds = record { position = position; holds = holds }
-
-unfoldable pub lowestFault : List Row → ℕ
-lowestFault [] = 0
-lowestFault (r ∷ rows) = cond (r .holds) (lowestFault rows) (r .position)

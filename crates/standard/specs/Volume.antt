@@ -4,7 +4,7 @@ use Prim.Native.Nat.{ℕ, _-_, _*_, _^_}
 use mathlib.Core.Bool.{Bool, cond, _&&_}
 use mathlib.Core.List.{List, [], _∷_}
 use Rattle.standard.specs.Characters.{bytes, byte, between, oneOf, same, field, at, aSet, inASet, isSpace, spacesOrNumber, hexDigits, hex}
-use Rattle.standard.specs.Refusals.{Row, row}
+use Rattle.standard.specs.Rules.{Row, row}
 
 -- "1-4 `VOL1`; 5-10, 11, 38-51 in the a-set; 72 `A`; 76 space, 1, 2, 3 for P = 128, 256, 512, 1024; 77-78 spaces or 01-13; 79 `3`; 81-82 hex L, 1-96;
 -- 83-84 hex I, 8-26; 85-86 hex D, 1-26; 89 hex S, 1-2. 87-88 cannot hold 256, so 76 decides; they and all other positions are not judged."

@@ -6,7 +6,7 @@ ghost use lib.ListN.{getD};
 ghost use lib.Dec.{ltb};
 ghost use Rattle.standard.specs.Characters.{isDigit, digitValue};
 ghost use Rattle.standard.specs.Addresses.{firstAddress, stepped, fiveDigits, twoDigits, fiveRead};
-ghost use Rattle.standard.specs.Places.{startPlace, behindAt, nextBlock, afterGap};
+ghost use Rattle.standard.specs.Places.{start, behindAt, nextBlock, afterGap};
 
 // A refusal: its number in the document's table, and its places, 0 where it has none.
 pub struct Refusal {
@@ -156,7 +156,7 @@ impl Place {
     };
 
     pub fn start() -> Place
-        ensures { λ r. ⌜ r ≡ startPlace ⌝ }
+        ensures { λ r. ⌜ r ≡ start ⌝ }
     {
         Place::START
     }
