@@ -9,7 +9,7 @@ use native.Mathlib.Omega.{arith}
 use native.Mathlib.Nat.{one-le-pow, mul-le-mul-right, pow-le-pow-right}
 use borrow.Author.Tests.{ltb-false, leb-true, eqb-true, ltb-true}
 use Rattle.standard.specs.Layout.{sectorCount, indexSectors, imageLength, slotCount, slotOrdinal, labelOffset, vol1Of, ermapOf}
-use Rattle.standard.specs.Characters.{bytes, oneOf, at, isSpace, field, hexDigits, hex, spaces}
+use Rattle.standard.specs.Characters.{bytes, oneOf, at, isSpace, field, hexDigits, hex, spaces, digitValue}
 use Rattle.standard.specs.Volume.{hexBetween, vol1Rules, volumeK}
 use Rattle.standard.specs.Judgement.{numbersIn, volumeOf, judged}
 use Rattle.standard.specs.declared.Geometry.{Geometry}
@@ -34,8 +34,8 @@ hex-bounds low high f h =
     let b = and-r (hexDigits f) _ h in
     (leb-true low (hex f) (and-l (leb low (hex f)) _ b), leb-true (hex f) high (and-r (leb low (hex f)) _ b))
 
-kinds-few : (c : ℕ) → oneOf (bytes " 123") c ≡ true → cond (isSpace c) 0 (c - 48) ≤ 3
-unfolding oneOf
+kinds-few : (c : ℕ) → oneOf (bytes " 123") c ≡ true → cond (isSpace c) 0 (digitValue c) ≤ 3
+unfolding oneOf digitValue
 kinds-few c h = go (eqb c 32) (eqb c 49) (eqb c 50) (eqb c 51) refl refl refl refl
   where
     go : (t u v x : Bool) → eqb c 32 ≡ t → eqb c 49 ≡ u → eqb c 50 ≡ v → eqb c 51 ≡ x → cond t 0 (c - 48) ≤ 3

@@ -30,7 +30,7 @@ fiveRead f = cond (fiveDigits f) (Digits (addressIn f)) NotDigits
 unfoldable pub legal : Geometry → Address → Bool
 legal g a = between 1 (g .L) (a .cylinder) && ltb (a .side) (g .S) && between 1 (g .D) (a .sector)
 
--- "Sector counts fastest, then side, then cylinder." The number of an address, from 0; and the order.
+-- "Sector counts fastest, then side, then cylinder." The rank of an address among the data addresses, from 0; and the order.
 unfoldable pub rank : Geometry → Address → ℕ
 rank g a = ((a .cylinder - 1) * g .S + a .side) * g .D + (a .sector - 1)
 
@@ -62,7 +62,7 @@ isAddress g f = fiveDigits f && legal g (addressIn f)
 unfoldable pub isDataEnd : Geometry → List ℕ → Bool
 isDataEnd g f = fiveDigits f && (legal g (addressIn f) || pastLast g (addressIn f))
 
--- the ordinal of the sector that has a data address
+-- the ordinal of the sector that has a data address: "data skip" the defective cylinders
 unfoldable pub ordinal : Geometry → Address → ℕ
 ordinal g a = ordinalAt g (physical g (a .cylinder)) (a .side) (a .sector)
 

@@ -82,7 +82,7 @@ abbrev pub hexDigits : List ℕ → Bool
 hexDigits f = every isHex f
 
 unfoldable pub hexValue : ℕ → ℕ
-hexValue c = cond (isDigit c) (c - byte "0") (c - byte "A" + 10)
+hexValue c = cond (isDigit c) (digitValue c) (c - byte "A" + 10)
 
 unfoldable pub hexFrom : ℕ → List ℕ → ℕ
 hexFrom n [] = n

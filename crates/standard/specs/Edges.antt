@@ -6,7 +6,7 @@ use mathlib.Core.Bool.{Bool, true, false}
 use mathlib.Core.List.{List, [], _∷_, _++_, map}
 use lib.ListN.{replicate}
 use Prim.Native.String.{String}
-use Rattle.standard.specs.Characters.{bytes, oneOf, same, every, aSet, isDigit, digitValue, numberFrom, spacesOrNumber, padded, shownBy, shown}
+use Rattle.standard.specs.Characters.{bytes, byte, oneOf, same, every, aSet, isDigit, digitValue, numberFrom, spacesOrNumber, padded, shownBy, shown}
 use Rattle.standard.specs.Addresses.{fiveDigits, addressIn, legal, rank, before, pastLast, isAddress, isDataEnd, fiveBytes}
 use Rattle.standard.specs.Labels.{knownLevel, anotherLevel, recordLength, unusedCount, rule44, rule6, rule29, rule35, rule40, rule23, rule63, rule41, rule42, rule43, rule45, rule46, spacesOrDate, rule48, rule67, rule54, rule58, rule64, rule73, rule75, hdr1Rules, labelFault, fixed, variable, spanned}
 use Rattle.standard.specs.Judgement.{overlap}
@@ -125,7 +125,7 @@ edges-pack = (refl, refl, refl, refl)
 
 -- 11 "extent shares a record with a lower slot's": labels of which only start (29-33) and end (35-39) are read, against one of 02001 to 02004
 abbrev extentOf : String → String → List ℕ
-extentOf from to = replicate 28 32 ++ (bytes from ++ (32 ∷ bytes to))
+extentOf from to = replicate 28 (byte " ") ++ (bytes from ++ bytes " " ++ bytes to)
 
 abbrev volume : Geometry
 volume = record { L = 5; I = 8; D = 8; k = 0; P = 128; S = 2; d1 = 0; d2 = 0 }
@@ -143,14 +143,17 @@ pub edges-overlap :
 unfolding digitValue addressIn rank overlap
 edges-overlap = (refl, refl, refl, refl, refl, refl)
 
--- HDR1 of a file from 02001 to 03008 with an empty data end: format, level, B, R, U and position 63 as given
+-- HDR1 of a file from 02001 to 03008 with the data end at its start: format, level, B, R, U and position 63 as given
 abbrev label : String → String → String → String → String → String → List ℕ
 label format level B R U blocked =
-    bytes "HDR1 LOG              " ++ (bytes B ++ (bytes " 02001 03008" ++ (bytes format ++ (bytes "   " ++ (bytes level ++ (replicate 9 32
-    ++ (bytes R ++ (bytes U ++ (bytes blocked ++ (replicate 11 32 ++ bytes "02001"))))))))))
+    bytes "HDR1 LOG              " ++ (bytes B ++ (bytes " 02001 03008" ++ (bytes format ++ (bytes "   " ++ (bytes level ++ (replicate 9 (byte " ")
+    ++ (bytes R ++ (bytes U ++ (bytes blocked ++ (replicate 11 (byte " ") ++ bytes "02001"))))))))))
 
 abbrev faultOf : String → String → String → String → String → String → ℕ
 faultOf format level B R U blocked = labelFault volume (label format level B R U blocked)
+
+abbrev large : Geometry
+large = record { L = 5; I = 8; D = 26; k = 3; P = 1024; S = 2; d1 = 0; d2 = 0 }
 
 pub edges-rules :
     (faultOf "V" "2" "00256" "0100" "     " "B" ≡ 0)
@@ -171,11 +174,14 @@ pub edges-rules :
     × (faultOf "X" "#" "00256" "0100" "     " "B" ≡ 40)
     -- "Another level has only 1-4, 29-33, 35-39 and 44 judged."
     × (faultOf "X" "3" "?????" "    " "     " "?" ≡ 0)
-    -- "V and S at most 9,999 (house)", "at most D·P"
+    -- "at most D·P"; "V and S at most 9,999 (house)", with D = 26 and P = 1024
     × (faultOf "V" "2" "01024" "0100" "     " "B" ≡ 0)
     × (faultOf "V" "2" "01152" "0100" "     " "B" ≡ 23)
+    × (labelFault large (label "V" "2" "09216" "0100" "     " "B") ≡ 0)
+    × (labelFault large (label "V" "2" "10240" "0100" "     " "B") ≡ 23)
+    × (labelFault large (label "F" "2" "10240" "    " "     " " ") ≡ 0)
 unfolding oneOf same every aSet isDigit digitValue numberFrom spacesOrNumber lowestFault fiveDigits addressIn legal rank before pastLast isAddress isDataEnd knownLevel anotherLevel recordLength unusedCount rule44 rule6 rule29 rule35 rule40 rule23 rule63 rule41 rule42 rule43 rule45 rule46 spacesOrDate rule48 rule67 rule54 rule58 rule64 rule73 rule75 hdr1Rules labelFault
-edges-rules = (refl, refl, refl, refl, refl, refl, refl, refl, refl, refl, refl, refl, refl)
+edges-rules = (refl, refl, refl, refl, refl, refl, refl, refl, refl, refl, refl, refl, refl, refl, refl, refl)
 
 pub edges-fields :
     -- "Then U (spaces for 0)"

@@ -6,7 +6,7 @@ use mathlib.Core.Bool.{true}
 use mathlib.Core.List.{List, [], _∷_, _++_, map}
 use lib.ListN.{length, replicate}
 use lib.Dec.{eqb}
-use Rattle.standard.specs.Characters.{bytes, isDigit, digitValue, padded}
+use Rattle.standard.specs.Characters.{bytes, byte, isDigit, digitValue, padded}
 use Rattle.standard.specs.Defects.{skipOne, physical}
 use Rattle.standard.specs.Addresses.{addressIn, stepped}
 use Rattle.standard.specs.Pieces.{number4, roleOf, lookV, lookS, look, walk, pieces, inBlock, inBlocks, ahead}
@@ -19,7 +19,7 @@ use Rattle.standard.specs.declared.Geometry.{Geometry}
 use Rattle.standard.specs.declared.Address.{Address}
 use Rattle.standard.specs.Labels.{variable, spanned, Params}
 
--- a volume with L, D, S and defects d1, d2; an address by its five digits
+-- a volume with L, D, S and defects d1, d2
 abbrev volume : ℕ → ℕ → ℕ → ℕ → ℕ → Geometry
 volume L D S d1 d2 = record { L = L; I = 8; D = D; k = 0; P = 128; S = S; d1 = d1; d2 = d2 }
 
@@ -41,20 +41,20 @@ abbrev s20 : Params
 s20 = record { format = spanned; R = 0; blocked = true }
 
 abbrev written8 : Packing
-written8 = pack v30 30 (replicate 10 65 ∷ replicate 10 66 ∷ replicate 10 67 ∷ [])
+written8 = pack v30 30 (replicate 10 (byte "A") ∷ replicate 10 (byte "B") ∷ replicate 10 (byte "C") ∷ [])
 
 abbrev written9 : Packing
 written9 = pack s20 20 (bytes "AAAAAAAA" ∷ bytes "BBBBBBBBBBBB" ∷ bytes "CCC" ∷ [])
 
 abbrev written12 : Packing
-written12 = pack s20 20 (replicate 20 65 ∷ replicate 20 66 ∷ [])
+written12 = pack s20 20 (replicate 20 (byte "A") ∷ replicate 20 (byte "B") ∷ [])
 
 -- what salvage gives of a written file with one block lost
 abbrev salvaged : Packing → ℕ → List Item
 salvaged w lost = readAll salvage (damaged (λ b. eqb b lost) (fileOf s20 (w .contents)))
 
-abbrev record9 : List ℕ → ℕ → ℕ → Item
-record9 body first last = rec (record { body = body; firstBlock = first; lastBlock = last })
+abbrev recordIn : List ℕ → ℕ → ℕ → Item
+recordIn body first last = rec (record { body = body; firstBlock = first; lastBlock = last })
 
 pub examples :
     -- "1. D=8, S=2: 01008 steps to 01101."
@@ -79,9 +79,9 @@ pub examples :
       U = 12;
     })
     -- "10. In 9, block 1 (of 0 to 2) lost: body 8, gap, body 3."
-    × (salvaged written9 1 ≡ record9 (bytes "AAAAAAAA") 0 0 ∷ gap 1 ∷ record9 (bytes "CCC") 2 2 ∷ end ∷ [])
+    × (salvaged written9 1 ≡ recordIn (bytes "AAAAAAAA") 0 0 ∷ gap 1 ∷ recordIn (bytes "CCC") 2 2 ∷ end ∷ [])
     -- "11. Block 0 lost: gap, body 3."
-    × (salvaged written9 0 ≡ gap 0 ∷ record9 (bytes "CCC") 2 2 ∷ end ∷ [])
+    × (salvaged written9 0 ≡ gap 0 ∷ recordIn (bytes "CCC") 2 2 ∷ end ∷ [])
     -- "12. S, B=20, bodies 20, 20, middle block of three lost: one gap only."
     × ((length (written12 .contents) ≡ 3) × (salvaged written12 1 ≡ gap 1 ∷ end ∷ []))
 unfolding isDigit digitValue padded number4 roleOf lookV lookS addressIn stepped skipOne physical addressesFrom nextDataEnd recordV segment lay layOne spread layS pack fileOf damage damaged look walk pieces inBlock inBlocks ahead answer step enough readOn readAll

@@ -74,7 +74,8 @@ isBlocked h = eqb (at h 63) (byte "B")
 abbrev pub dataEndOf : List ℕ → Address
 dataEndOf h = addressIn (field h 75 79)
 
--- The rules. A field is at fault where its rule does not hold. Fields that others read come first: 44, 29, 40, 23, 63.
+-- The rules, in the order of the document but for those that an earlier field reads: 44 stands before all, 40 before 23, 63 before 54. A field is at fault
+-- where its rule does not hold.
 
 -- a part of a rule that applies only where something is so
 abbrev pub if-so : Bool → Bool → Bool
@@ -84,8 +85,7 @@ if-so test part = not test || part
 abbrev pub reading : Bool → Bool → Bool
 reading fieldHolds part = not fieldHolds || part
 
--- "With 44 outside the a-set every field is judged, without the parts that name a level": such a 44 is no level, and a part that names one says
--- `if-so (levelSpace h)`.
+-- "space, 1, 2 or another a-character": all of them are a-characters
 unfoldable pub rule44 : List ℕ → Bool
 rule44 h = aSet (level h)
 
@@ -180,7 +180,8 @@ rule73 h = aSet (at h 73)
 unfoldable pub rule75 : Geometry → List ℕ → Bool
 rule75 g h = isDataEnd g (field h 75 79) && reading (rule29 g h) (not (before g (dataEndOf h) (startOf h)))
 
--- The table. "Another level has only 1-4, 29-33, 35-39 and 44 judged." "Other positions are not judged."
+-- The table. "Another level has only 1-4, 29-33, 35-39 and 44 judged." "Other positions are not judged." "With 44 outside the a-set every field is judged,
+-- without the parts that name a level": such a 44 is not `anotherLevel`, and no level's test holds there.
 abbrev pub unlessAnother : List ℕ → Bool → Bool
 unlessAnother h rule = anotherLevel h || rule
 

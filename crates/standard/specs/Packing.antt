@@ -39,7 +39,8 @@ recordV body = padded 4 (4 + length body) ++ body
 unfoldable pub segment : Role → List ℕ → List ℕ
 segment k body = roleByte k ∷ (padded 4 (5 + length body) ++ body)
 
--- F and V blocked: "into the current block if it fits, else the next". `room` is what is left of the current block
+-- "F: B/R to a block" (R divides B, so that as many fit) and V "blocked: into the current block if it fits, else the next". `room` is what is left of the
+-- current block
 abbrev pub placeIf : Bool → ℕ → ℕ → List ℕ → (ℕ → Laid) → Laid
 placeIf true B room bytes more = then bytes (more (room - length bytes))
 placeIf false B room bytes more = thenNext (fill room) (then bytes (more (B - length bytes)))

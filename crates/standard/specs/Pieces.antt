@@ -18,7 +18,7 @@ abbrev pub sizeOf : Block → ℕ
 sizeOf (lostBlock n) = n
 sizeOf (held c) = length c
 
--- The marks 0 to 3 of a segment. A record of F or V is a whole.
+-- What a segment is to its record, by its `0`-`3`. A record of F or V is a whole.
 pub data Role : Type 0 where
   whole first middle last : Role
 
@@ -72,14 +72,14 @@ unfoldable pub lookF : ℕ → List ℕ → Piece
 lookF R [] = blank
 lookF R (x ∷ xs) = cond (leb 1 R && leb R (suc (length xs))) (piece whole (take R (x ∷ xs)) R) broken
 
--- "In V, with fewer than 4 bytes left, or at a byte 00, the rest must be fill"; "if unblocked, at offsets above 0 only fill"
+-- "In V, with fewer than 4 bytes left (S: 5), or at a byte 00, the rest must be fill." "if unblocked, at offsets above 0 only fill"
 abbrev pub onlyFillV : Bool → ℕ → List ℕ → Bool
 onlyFillV blocked o rest = ltb (length rest) 4 || eqb (getD rest 0 0) 0 || (not blocked && ltb 0 o)
 
 unfoldable pub lookV : ℕ → Bool → ℕ → List ℕ → Piece
 lookV R blocked o rest = cond (onlyFillV blocked o rest) (mustFill rest) (sizedV R rest (four rest))
 
--- "(S: 5)"
+-- the same in S, with 5
 abbrev pub onlyFillS : List ℕ → Bool
 onlyFillS rest = ltb (length rest) 5 || eqb (getD rest 0 0) 0
 
@@ -109,6 +109,7 @@ afterPart first b o rest more = cond (isFill rest) [] (bad b o ∷ [])
 afterPart middle b o rest more = cond (isFill rest) [] (bad b o ∷ [])
 afterPart last b o rest more = more
 
+-- "A block of fill alone holds nothing."
 abbrev pub tokensAt : ℕ → ℕ → List ℕ → (ℕ → List ℕ → List Token) → Piece → List Token
 tokensAt b o rest more blank = []
 tokensAt b o rest more broken = bad b o ∷ []

@@ -65,8 +65,8 @@ overIn spanned R n = ltb 0 R && ltb R n
 abbrev pub over : Params → ℕ → Bool
 over p n = overIn (p .format) (p .R) n
 
--- "the next segment must be 2 or 3; otherwise it must be 0 or 1"; after a gap "a 2 is dropped, unmeasured by R, and the mark stays; a 3 is dropped
--- likewise and reading goes on without it"
+-- "the next segment must be 2 or 3; otherwise it must be 0 or 1." After a gap, "There, in S, 0 to 3 may come first: a 2 is dropped, unmeasured by R, and
+-- the mark stays; a 3 is dropped likewise and reading goes on without it."
 abbrev pub meet : Params → State → Role → List ℕ → ℕ → Move
 meet p fresh whole body b = cond (over p (length body)) breach (deliver body b)
 meet p fresh first body b = cond (over p (length body)) breach (carry (within body b))
@@ -97,7 +97,8 @@ afterMove (deliver body f) b o n more = took (record { body = body; firstBlock =
 afterMove (carry st) b o n more = more st
 afterMove breach b o n more = refused (refuse21 b o)
 
--- the answer to a reader in a state, of which the list is what it has before it
+-- the answer to a reader in a state, of which the list is what it has before it. A block of fill has no tokens, so the state stays: "A block of fill keeps
+-- it." Where nothing is left, "block = count .. answers End".
 unfoldable pub answer : Mode → Params → List Token → State → Met
 answer m p [] st = atEnd st
 answer m p (part k body b o n ∷ ts) st = afterMove (meet p st k body b) b o n (λ st′. answer m p ts st′)
@@ -142,7 +143,7 @@ follow (gapped b pl) more = gap b ∷ more pl
 follow ended more = end ∷ []
 follow (refused r) more = no r ∷ []
 
--- reading on from a place, at most n + 1 readings
+-- reading on from a place, at most n readings
 unfoldable pub readOn : ℕ → Mode → File → Place → List Item
 readOn zero m f pl = []
 readOn (suc n) m f pl = follow (step m f pl) (λ pl′. readOn n m f pl′)

@@ -1,16 +1,17 @@
 -- Section "VOL1 and ERMAP (tables 2 and 4)", VOL1.
 -- Assumes nothing.
-use Prim.Native.Nat.{ℕ, _-_, _*_, _^_}
+use Prim.Native.Nat.{ℕ, _*_, _^_}
 use mathlib.Core.Bool.{Bool, cond, _&&_}
 use mathlib.Core.List.{List, [], _∷_}
-use Rattle.standard.specs.Characters.{bytes, byte, between, oneOf, same, field, at, aSet, inASet, isSpace, spacesOrNumber, hexDigits, hex}
+use Rattle.standard.specs.Characters.{bytes, between, oneOf, same, field, at, aSet, inASet, isSpace, digitValue, spacesOrNumber, hexDigits, hex}
 use Rattle.standard.specs.Rules.{Row, row}
 
--- "1-4 `VOL1`; 5-10, 11, 38-51 in the a-set; 72 `A`; 76 space, 1, 2, 3 for P = 128, 256, 512, 1024; 77-78 spaces or 01-13; 79 `3`; 81-82 hex L, 1-96;
--- 83-84 hex I, 8-26; 85-86 hex D, 1-26; 89 hex S, 1-2. 87-88 cannot hold 256, so 76 decides; they and all other positions are not judged."
+-- a field of hex digits whose number is in a range
 abbrev pub hexBetween : ℕ → ℕ → List ℕ → Bool
 hexBetween low high f = hexDigits f && between low high (hex f)
 
+-- "1-4 `VOL1`; 5-10, 11, 38-51 in the a-set; 72 `A`; 76 space, 1, 2, 3 for P = 128, 256, 512, 1024; 77-78 spaces or 01-13; 79 `3`; 81-82 hex L, 1-96;
+-- 83-84 hex I, 8-26; 85-86 hex D, 1-26; 89 hex S, 1-2. 87-88 cannot hold 256, so 76 decides; they and all other positions are not judged."
 unfoldable pub vol1Rules : List ℕ → List Row
 vol1Rules v =
     row 1 (same (field v 1 4) (bytes "VOL1"))
@@ -41,7 +42,7 @@ volumeS v = hex (field v 89 89)
 
 -- "76 space, 1, 2, 3 for P = 128, 256, 512, 1024", which is 128·2^k
 abbrev pub volumeK : List ℕ → ℕ
-volumeK v = cond (isSpace (at v 76)) 0 (at v 76 - byte "0")
+volumeK v = cond (isSpace (at v 76)) 0 (digitValue (at v 76))
 
 abbrev pub volumeP : List ℕ → ℕ
 volumeP v = 128 * 2 ^ volumeK v

@@ -8,7 +8,8 @@ ghost use Rattle.standard.specs.Characters.{isDigit, digitValue};
 ghost use Rattle.standard.specs.Addresses.{firstAddress, stepped, fiveDigits, twoDigits, fiveRead};
 ghost use Rattle.standard.specs.Places.{start, behindAt, nextBlock, afterGap};
 
-// A refusal: its number in the document's table, and its places, 0 where it has none.
+// A refusal: its number in the document's table, and its places, 0 where it has none. (Document 01 has two places at most; the third is kept for a later
+// request.)
 pub struct Refusal {
     pub number: u8,
     pub first: u64,
@@ -92,7 +93,7 @@ impl Address {
         Address::FIRST
     }
 
-    // The step onward. From an address past cylinder L there is none: it stays.
+    // The step onward. Behind cylinder L+1 there is no cylinder: an address at its very end stays.
     pub fn step(self, g: Geometry) -> Address
         ensures { λ r. ⌜ r ≡ stepped g self ⌝ }
     {
