@@ -1,5 +1,6 @@
 -- THE DEMANDS, for a reader who proves nothing. Each promise stands under the sentence that it states; the lines behind `=` only name its proof. The
--- names in the statements are the definitions of crates/standard, to which contracts tie the code; the few that are not are said where they first stand.
+-- names in the statements are the definitions of crates/standard, which contracts cite; the few that are not are said where they first stand. `A → B`: if A
+-- then B; `A × B`: both; `A ⊎ B`: one of them; `A → ⊥`: not A; `Passed`: no refusal of the list is given; `getD x i 0`: the byte at i.
 -- Assumes nothing.
 use Prim.Native.Nat.{ℕ, _+_, _*_, _≤_}
 use mathlib.Core.Path.{_≡_, ap, subst}

@@ -72,10 +72,31 @@ output = replicate 12 255
 abbrev pub geometry : Geometry
 geometry = record { L = 1; I = 8; D = 3; k = 0; P = 128; S = 1; d1 = 0; d2 = 0 }
 
+-- The same with F, B = R = 256 and D = 5, where the first record of the extent is defective. Its two blocks are A, B and C, D of 128 bytes each.
+abbrev of128 : ℕ → List ℕ
+of128 c = replicate 128 c
+
+unfoldable pub withDefect : List ℕ
+withDefect =
+    blankSectors 4
+    ++ sector (bytes "ERMAP")
+    ++ sector []
+    ++ sector (bytes "VOL1DEMO01                                                             A      3 010805  1")
+    ++ sector (bytes "HDR1 LOG              00256 01001 01005F   2         0256                 02001")
+    ++ (16 ∷ (bytes "F" ++ replicate 127 32))
+    ++ sector (of128 65)
+    ++ sector (of128 66)
+    ++ sector (of128 67)
+    ++ sector (of128 68)
+    ++ blankSectors 15
+
+abbrev defectVolume : Geometry
+defectVolume = record { L = 1; I = 8; D = 5; k = 0; P = 128; S = 1; d1 = 0; d2 = 0 }
+
 abbrev bodies : List (List ℕ)
 bodies = bytes "AAAAAAAA" ∷ bytes "BBBBBBBBBBBB" ∷ bytes "CCC" ∷ []
 
--- What is computed of it. It is accepted; example 9 is read back; example 10, where block 1 is lost: its sector is the tenth, ordinal 9, in the image, and
+-- What is computed of the first. It is accepted; example 9 is read back; example 10, where block 1 is lost: its sector is the tenth, ordinal 9, in the image, and
 -- of block 1.
 pub computed : (judged image ≡ Volume geometry)
     × (following 4 plain image 1 output start ≡ map told bodies ++ (done ∷ []))
@@ -86,8 +107,12 @@ pub computed : (judged image ≡ Volume geometry)
     × (sectorOf geometry (recordsOf geometry image (labelAt geometry image 1) 1) 9 ≡ true)
     × (gone geometry (among (9 ∷ [])) image (labelAt geometry image 1) 0 ≡ false)
     × (gone geometry (among (9 ∷ [])) image (labelAt geometry image 1) 1 ≡ true)
-unfolding image oneOf same every aSet isDigit digitValue numberFrom spacesOrNumber isHex hexValue hexFrom given-when inOrder orElse lowestFault ordinalAt sectorCount kAt bodySize kindOffset bodyOffset imageLength kindAt bodyAt firstByte validMark incorrectMark checkFailed indexKind indexBody slotCount slotOrdinal labelOffset labelAt vol1Rules ermapRules ermapRule7 ermapRule11 rule41 rule42 rule43 rule45 rule64 rule73 skipOne physical fiveDigits addressIn fiveRead legal rank before stepped pastLast isAddress isDataEnd ordinal knownLevel anotherLevel formatOf recordLength unusedCount rule44 rule6 rule29 rule35 rule40 rule23 rule63 rule46 spacesOrDate rule48 rule67 rule54 rule58 rule75 hdr1Rules labelFault isLabel isDeleted isUnreadable slotRefusal slotsFrom hasLabel numbersIn legalKind kindsFrom clashesBelow clashesFrom overlap shares sameName namesake volumeRefusal judged addressesFrom extentSize extent isDefective goodAmong goodRecords recordsToBlock goodBefore dataEndAtStart dataEndInExtent blocksHeld blockCount isWrong wrongAmong splitsBlock countRefusal counted openRefusal anyFailed bytesOf blockOf blocksFrom fileIn fileAt answer step inFile readOn enough readAll join listed number4 roleOf lookF lookV lookS look walk pieces inBlock inBlocks ahead replyIn reply laidOver following failedAt sectorOf recordsOf anyHit gone among
-computed = (refl, refl, refl, refl, omega arith, omega arith, refl, refl, refl)
+    -- Of the second: WHAT DEMAND 3 DOES NOT PROMISE. Where the sector of the defective record fails, it counts as good ("check-failed ones included"), the
+    -- blocks move by one record, and salvage gives B, C. (docs/DECISIONS.md, 7.12)
+    × (following 3 plain withDefect 1 (replicate 256 255) start ≡ told (of128 65 ++ of128 66) ∷ told (of128 67 ++ of128 68) ∷ done ∷ [])
+    × (following 3 salvage (failedAt defectVolume 8 withDefect) 1 (replicate 256 255) start ≡ hole 0 ∷ told (of128 66 ++ of128 67) ∷ done ∷ [])
+unfolding withDefect image oneOf same every aSet isDigit digitValue numberFrom spacesOrNumber isHex hexValue hexFrom given-when inOrder orElse lowestFault ordinalAt sectorCount kAt bodySize kindOffset bodyOffset imageLength kindAt bodyAt firstByte validMark incorrectMark checkFailed indexKind indexBody slotCount slotOrdinal labelOffset labelAt vol1Rules ermapRules ermapRule7 ermapRule11 rule41 rule42 rule43 rule45 rule64 rule73 skipOne physical fiveDigits addressIn fiveRead legal rank before stepped pastLast isAddress isDataEnd ordinal knownLevel anotherLevel formatOf recordLength unusedCount rule44 rule6 rule29 rule35 rule40 rule23 rule63 rule46 spacesOrDate rule48 rule67 rule54 rule58 rule75 hdr1Rules labelFault isLabel isDeleted isUnreadable slotRefusal slotsFrom hasLabel numbersIn legalKind kindsFrom clashesBelow clashesFrom overlap shares sameName namesake volumeRefusal judged addressesFrom extentSize extent isDefective goodAmong goodRecords recordsToBlock goodBefore dataEndAtStart dataEndInExtent blocksHeld blockCount isWrong wrongAmong splitsBlock countRefusal counted openRefusal anyFailed bytesOf blockOf blocksFrom fileIn fileAt answer step inFile readOn enough readAll join listed number4 roleOf lookF lookV lookS look walk pieces inBlock inBlocks ahead replyIn reply laidOver following failedAt sectorOf recordsOf anyHit gone among
+computed = (refl, refl, refl, refl, omega arith, omega arith, refl, refl, refl, refl, refl)
 
 -- THE PROMISE OF SALVAGE HOLDS OF SOMETHING: its premises are met by this image and this failure
 reads-whole : ReadsWhole image 1 bodies

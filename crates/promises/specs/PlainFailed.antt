@@ -41,7 +41,7 @@ pub record FirstGone (gone : ℕ → Bool) (n b : ℕ) : Type 0 where
 abbrev pub NoneGone : (ℕ → Bool) → ℕ → Type 0
 NoneGone gone n = (a : ℕ) → a < n → gone a ≡ false
 
--- the records whose last block is below b, in order. A record begun before b and not ended before b is none of them.
+-- the records whose last block is below b, in order. A record begun before b and not ended before b is not among them.
 unfoldable pub endedBefore : ℕ → List Record → List Record
 endedBefore b [] = []
 endedBefore b (r ∷ rs) = cond (ltb (r .lastBlock) b) (r ∷ endedBefore b rs) (endedBefore b rs)

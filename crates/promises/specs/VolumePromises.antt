@@ -33,8 +33,8 @@ in-extent g h b r m =
     let w = every-member (Between g lo hi) (extent g h) b (rising-every g lo hi (extent g h) (extent-rising g h r)) m in
     (w .0, bounds-extent g h (rank g b) (w .1) (w .2))
 
--- EVERY LABEL'S EXTENT IS IN RANGE: its start and end are addresses of the volume and in order, and so is each address of it; each is in a sector of the
--- image, behind the index cylinder, and on no defective cylinder.
+-- EVERY LABEL'S EXTENT IS IN RANGE: each record of it has an address of the volume, is in a sector of the image behind the index cylinder, and on no defective
+-- cylinder.
 pub record RecordInRange (image : List ℕ) (g : Geometry) (a : Address) : Type 0 where
   pub address : legal g a ≡ true
   pub behind-index : indexSectors g ≤ ordinal g a

@@ -124,7 +124,7 @@ module _ (image : List ℕ) (g : Geometry) (slot : ℕ) (bodies lengths : List �
   pub accepted-still : judged after ≡ Volume g
   accepted-still = ap judged after-t ∙ judged-from t g (again image g slot bodies lengths j w)
 
-  -- 3. THE READ-BACK
+  -- 3. THE TWO FIELDS OF THE LABEL, AND THE READ-BACK
   pub unused-set : field (labelAt g after slot) 58 62 ≡ unusedField (packing label bodies lengths .U)
   unused-set = ap (λ (s : List ℕ). field (labelAt g s slot) 58 62) after-t ∙ result-unused image g slot bodies lengths j w
 

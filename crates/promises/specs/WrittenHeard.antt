@@ -92,7 +92,7 @@ module _ (image : List ℕ) (g : Geometry) (slot : ℕ) (bodies lengths : List �
       written-heard-in m n out
       ∙ ap (take n) (told-all (length out) (parted bodies lengths) (subst (RoomFor (length out)) (sym (records-are image g slot bodies lengths j w .0)) h))
 
-  -- and one reading more than there are records gives them all. (So a written file is one that salvage after a failure is promised of.)
+  -- and one reading more than there are records gives them all. (So demand 3 holds of every file just written.)
   pub written-heard-all : (m : Mode) (n : ℕ) (out : List ℕ) → RoomFor (length out) lengths → length lengths + 1 ≤ n
       → following n m after slot out start ≡ map told (parted bodies lengths) ++ (done ∷ [])
   written-heard-all m n out h l =
