@@ -3,14 +3,14 @@
 -- then B; `A × B`: both; `A ⊎ B`: one of them; `A → ⊥`: not A; `Passed`: no refusal of the list is given; `getD x i 0`: the byte at i.
 -- Assumes nothing.
 use Prim.Native.Nat.{ℕ, _+_, _*_, _≤_}
-use mathlib.Core.Path.{_≡_, ap, subst}
+use mathlib.Core.Path.{_≡_, sym, ap, subst, _∙_}
 use mathlib.Core.Bool.{Bool, true, false}
 use mathlib.Core.Logic.{_⊎_}
 use mathlib.Core.List.{List, _∷_, [], _++_, map, List·Memᴰ}
 use lib.ListN.{length, getD, take}
 use Rattle.standard.specs.Refusals.{refuse}
 use Rattle.standard.specs.Layout.{indexSectors, labelAt}
-use Rattle.standard.specs.Addresses.{ordinal}
+use Rattle.standard.specs.Addresses.{ordinal, fiveBytes}
 use Rattle.standard.specs.Slots.{hasLabel}
 use Rattle.standard.specs.Judgement.{judged, volumeOf, volumeList}
 use Rattle.standard.specs.Finding.{found, foundAt}
@@ -19,7 +19,7 @@ use Rattle.standard.specs.Files.{extent, blockCount, countList, counted, openLi
 use Rattle.standard.specs.Records.{Mode, salvage, Record, rec, listed, inFile}
 use Rattle.standard.specs.Places.{start}
 use Rattle.standard.specs.Reading.{Reply, laidOver, readAnswer, outputAfter}
-use Rattle.standard.specs.Writing.{parted, needed, writeList, writeRefusal, written, imageAfter}
+use Rattle.standard.specs.Writing.{parted, needed, writeList, writeRefusal, written, imageAfter, packing, unusedField, dataEndAfter}
 use Rattle.standard.specs.declared.Geometry.{Geometry}
 use Rattle.standard.specs.declared.Address.{Address}
 use Rattle.standard.specs.declared.Place.{Place}
@@ -30,19 +30,22 @@ use Rattle.standard.specs.declared.Counted.the-variants.{Uncounted, Count}
 use Rattle.standard.specs.declared.Found.the-variants.{Unfound}
 use Rattle.standard.specs.declared.Judged.the-variants.{Refused, Volume}
 use Rattle.standard.specs.declared.Written.the-variants.{Unwritten, Blocks}
-use Rattle.promises.specs.Refusing.{Exactly, First, volume-first, volume-stops, count-first, unopened, not-in-file, write-first, refusal-lays-nothing, gap-lays-nothing, end-lays-nothing, refusal-writes-nothing}
+use Rattle.promises.specs.Refusing.{Exactly, First, accepted-write, volume-first, volume-stops, count-first, unopened, not-in-file, write-first, refusal-lays-nothing, gap-lays-nothing, end-lays-nothing, refusal-writes-nothing}
 use Rattle.promises.specs.VolumePromises.{RecordInRange, extent-in-range, no-record-shared}
 use Rattle.promises.specs.Sectors.{AgreeOn, sectorOf}
-use Rattle.promises.specs.Following.{following, heard, told, done, Fits}
+use Rattle.promises.specs.Following.{following, heard, told, done as ended, Fits}
 use Rattle.promises.specs.Failing.{Failed, OfBlocks, ReadsWhole, Salvaged, gone}
 use Rattle.promises.specs.ReadingLaws.{bodyOf}
 use Rattle.promises.specs.Promises.{ReadingPromise, reading-promise, SalvagePromise, salvage-promise, LocalityPromise, locality-promise}
 use Rattle.promises.specs.PlainFailed.{PlainlyRead, PlainFailedPromise, plain-failed-promise}
-use Rattle.promises.specs.WritingPromises.{answers, accepted-still, counts, readings-stay, counts-stay, names-stay, slots-stay, free-stays}
+use Rattle.promises.specs.WritingPromises.{joined, answers, length-stays, accepted-still, unused-set, end-set, records-are, counts, writing-again, writing-stays, readings-stay, counts-stay, names-stay, slots-stay, free-stays}
 use Rattle.promises.specs.WrittenHeard.{RoomFor, written-heard-all}
 use Rattle.promises.specs.ByteSectors.{MayChange, write-changes}
 use Rattle.promises.specs.NeverJoined.{remains-told}
-use Rattle.promises.specs.Determined.{Determinate, by-function}
+use Rattle.promises.specs.Determined.{Determinate, by-function, one-result-and-bytes}
+use Rattle.standard.specs.Characters.{field}
+use Rattle.standard.specs.declared.Written.{Written}
+use Rattle.standard.specs.declared.Answer.{Answer}
 
 -- ======== DEMAND 1
 -- "Every image, name, place and length is taken, untested by the caller." Each definition below is a function of any lists of bytes and any numbers, so
@@ -116,46 +119,68 @@ pub reading-gives : (image : List ℕ) (g : Geometry) (slot : ℕ) → judged im
 unfolding ReadingPromise
 reading-gives = reading-promise
 
--- "an accepted write reads back as its list and changes no byte but the sectors it fills and two fields of the label." `parted`: the bodies, each of its
--- length. `MayChange`: the byte is in a sector of the blocks filled, or in positions 58-62 or 75-79 of the label.
-module _ (image : List ℕ) (g : Geometry) (slot : ℕ) (bodies lengths : List ℕ) (accepted : judged image ≡ Volume g)
-    (passed : writeRefusal g image slot bodies lengths ≡ Passed) where
+-- "an accepted write reads back as its list and changes no byte but the sectors it fills and two fields of the label." A write is accepted where it
+-- answers with a number of blocks. `parted bodies lengths`: the list, record by record. `MayChange`: the byte is in a sector of the blocks filled, or in
+-- positions 58-62 or 75-79 of the label.
+module _ (image : List ℕ) (g : Geometry) (slot : ℕ) (bodies lengths : List ℕ) (n : ℕ) (accepted : judged image ≡ Volume g)
+    (done : written image slot bodies lengths ≡ Blocks n) where
   abbrev after : List ℕ
   after = imageAfter image slot bodies lengths
 
-  abbrev blocks : ℕ
-  blocks = needed (labelAt g image slot) bodies lengths
+  abbrev label : List ℕ
+  label = labelAt g image slot
 
-  pub write-answers : (written image slot bodies lengths ≡ Blocks blocks) × (counted after slot ≡ Count blocks)
-  write-answers = (answers image g slot bodies lengths accepted passed, counts image g slot bodies lengths accepted passed)
+  passed : writeRefusal g image slot bodies lengths ≡ Passed
+  passed = accepted-write image g accepted slot bodies lengths n done
 
-  pub write-reads-back : (m : Mode) (n : ℕ) (out : List ℕ) → RoomFor (length out) lengths → length lengths + 1 ≤ n
-      → following n m after slot out start ≡ map told (parted bodies lengths) ++ (done ∷ [])
+  -- the list is the bodies lent, each of its length
+  pub write-list : (map length (parted bodies lengths) ≡ lengths) × (joined (parted bodies lengths) ≡ bodies)
+  write-list = records-are image g slot bodies lengths accepted passed
+
+  pub write-counts : (n ≡ needed label bodies lengths) × (counted after slot ≡ Count n)
+  write-counts =
+      let e = answers image g slot bodies lengths accepted passed in
+      let same : n ≡ needed label bodies lengths = cc in
+      (same, counts image g slot bodies lengths accepted passed ∙ ap Count (sym same))
+
+  pub write-reads-back : (m : Mode) (readings : ℕ) (out : List ℕ) → RoomFor (length out) lengths → length lengths + 1 ≤ readings
+      → following readings m after slot out start ≡ map told (parted bodies lengths) ++ (ended ∷ [])
   write-reads-back = written-heard-all image g slot bodies lengths accepted passed
 
-  pub write-changes-no-more : (i : ℕ) → (getD after i 0 ≡ getD image i 0) ⊎ MayChange g image slot blocks i
-  write-changes-no-more = write-changes image g slot bodies lengths accepted passed
+  pub write-changes-no-more : (length after ≡ length image)
+      × ((i : ℕ) → (getD after i 0 ≡ getD image i 0) ⊎ MayChange g image slot (needed label bodies lengths) i)
+  write-changes-no-more = (length-stays image g slot bodies lengths accepted passed, write-changes image g slot bodies lengths accepted passed)
+
+  -- "Then U (spaces for 0) and the data end are set"
+  pub write-sets : (field (labelAt g after slot) 58 62 ≡ unusedField (packing label bodies lengths .U))
+      × (field (labelAt g after slot) 75 79 ≡ fiveBytes (dataEndAfter g image label (needed label bodies lengths)))
+  write-sets = (unused-set image g slot bodies lengths accepted passed, end-set image g slot bodies lengths accepted passed)
 
   pub write-stays-accepted : judged after ≡ Volume g
   write-stays-accepted = accepted-still image g slot bodies lengths accepted passed
 
-  -- every other file, name and free record is as before
+  -- every other file is as before, and so is what is found, the number of free records, and whether a further write is refused
   pub others-stay : (other : ℕ) → (other ≡ slot → ⊥)
       → ((m : Mode) (pl : Place) (out : List ℕ) → readAnswer m after other pl out ≡ readAnswer m image other pl out)
       × ((m : Mode) (pl : Place) (out : List ℕ) → outputAfter m after other pl out ≡ outputAfter m image other pl out)
       × (counted after other ≡ counted image other)
+      × ((b l : List ℕ) → writeRefusal g after other b l ≡ writeRefusal g image other b l)
   others-stay other ne =
       let same = readings-stay image g slot bodies lengths accepted passed other ne in (
         (λ m pl out. ap (λ (r : Reply). r .answer) (same m pl (length out))),
         (λ m pl out. ap (λ (r : Reply). laidOver (r .body) out) (same m pl (length out))),
         counts-stay image g slot bodies lengths accepted passed other ne,
+        writing-stays image g slot bodies lengths accepted passed other ne,
       )
 
-  pub finding-stays : ((name : List ℕ) → found after name ≡ found image name) × ((s : ℕ) → foundAt after s ≡ foundAt image s) × (freeCount after ≡ freeCount image)
+  pub finding-stays : ((name : List ℕ) → found after name ≡ found image name) × ((s : ℕ) → foundAt after s ≡ foundAt image s)
+      × (freeCount after ≡ freeCount image)
+      × ((b l : List ℕ) → writeRefusal g after slot b l ≡ writeRefusal g image slot b l)
   finding-stays = (
     names-stay image g slot bodies lengths accepted passed,
     slots-stay image g slot bodies lengths accepted passed,
     free-stays image g slot bodies lengths accepted passed,
+    writing-again image g slot bodies lengths accepted passed,
   )
 
 -- ======== DEMAND 3
@@ -198,6 +223,21 @@ locality image image′ g g′ slot j j′ index extents =
 -- ======== DETERMINACY
 -- "For each input a contract determines the result and every lent byte afterwards, refusals too. Show that any two results it allows are equal". A contract
 -- relates an input to an outcome, which holds the result and the lent bytes; one that names the outcome as a function of the input allows one outcome.
+pub reading-determined : (m : Mode) (image : List ℕ) (slot : ℕ) (pl : Place) (out : List ℕ) (r r′ : Answer) (after after′ : List ℕ)
+    → (r ≡ readAnswer m image slot pl out) × (after ≡ outputAfter m image slot pl out)
+    → (r′ ≡ readAnswer m image slot pl out) × (after′ ≡ outputAfter m image slot pl out)
+    → (r ≡ r′) × (after ≡ after′)
+reading-determined m image slot pl out r r′ after after′ =
+    one-result-and-bytes (readAnswer m image slot pl out) (outputAfter m image slot pl out) r r′ after after′
+
+pub writing-determined : (image : List ℕ) (slot : ℕ) (bodies lengths : List ℕ) (r r′ : Written) (after after′ : List ℕ)
+    → (r ≡ written image slot bodies lengths) × (after ≡ imageAfter image slot bodies lengths)
+    → (r′ ≡ written image slot bodies lengths) × (after′ ≡ imageAfter image slot bodies lengths)
+    → (r ≡ r′) × (after ≡ after′)
+writing-determined image slot bodies lengths r r′ after after′ =
+    one-result-and-bytes (written image slot bodies lengths) (imageAfter image slot bodies lengths) r r′ after after′
+
+-- and so for every contract of that form
 pub determined : {Input Outcome : Type 0} (Contract : Input → Outcome → Type 0) (named : Input → Outcome)
     → ((i : Input) (o : Outcome) → Contract i o → o ≡ named i)
     → (i : Input) (o o′ : Outcome) → Contract i o → Contract i o′ → o ≡ o′

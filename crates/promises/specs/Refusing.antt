@@ -152,6 +152,17 @@ module _ (image : List ℕ) (g : Geometry) (j : judged image ≡ Volume g) where
     (λ f. ap (λ (v : Judged). outcomeOn v image slot bodies lengths .answer) j ∙ ap (λ (c : Checked). unless c image (outcomeDone g image slot bodies lengths) .answer) (first-order (writeList g image slot bodies lengths) r f)),
   )
 
+  -- a write that answers with blocks was refused by nothing
+  write-done : (c : Checked) (o : Outcome) (n : ℕ) → unless c image o .answer ≡ Blocks n → c ≡ Passed
+  write-done Passed o n h = refl
+  write-done (Stopped q) o n h = never (cc)
+
+  pub accepted-write : (slot : ℕ) (bodies lengths : List ℕ) (n : ℕ) → written image slot bodies lengths ≡ Blocks n → writeRefusal g image slot bodies lengths ≡ Passed
+  unfolding outcome
+  accepted-write slot bodies lengths n h =
+      write-done (writeRefusal g image slot bodies lengths) (outcomeDone g image slot bodies lengths) n
+      (subst (λ (v : Judged). outcomeOn v image slot bodies lengths .answer ≡ Blocks n) j h)
+
 -- ---- what was lent stays
 -- A reply that is no record has no body; one that is a record has a body of the length that it names.
 abbrev Bodied : Answer → List ℕ → Type 0
