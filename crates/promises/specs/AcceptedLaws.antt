@@ -65,7 +65,7 @@ label-in-range image g slot j h =
     fault-none g (labelAt g image slot) (label-faultless image g slot j h)
 
 -- no address number is in the extents of two labels
-extent-bounds : (g : Geometry) (h : List ℕ) (i : ℕ) → inExtent g h i ≡ true → (rank g (startOf h) ≤ i) × (i ≤ rank g (endOf h))
+pub extent-bounds : (g : Geometry) (h : List ℕ) (i : ℕ) → inExtent g h i ≡ true → (rank g (startOf h) ≤ i) × (i ≤ rank g (endOf h))
 unfolding inExtent
 extent-bounds g h i e =
     (leb-true (rank g (startOf h)) i (and-l (leb (rank g (startOf h)) i) _ e), leb-true i (rank g (endOf h)) (and-r (leb (rank g (startOf h)) i) _ e))

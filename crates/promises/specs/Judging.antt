@@ -75,7 +75,7 @@ module _ (run : ℕ → ℕ → Checked) (Q : ℕ → Type 0) where
       one left first (h first (omega arith) (omega arith)) (run-all none one left (first + 1) (λ n l m. h n (omega arith) (omega arith)))
 
 -- a label's table: no fault where each row holds
-abbrev numbered : List Row → Bool
+abbrev pub numbered : List Row → Bool
 numbered [] = true
 numbered (r ∷ rows) = ltb 0 (r .position) && numbered rows
 
@@ -185,7 +185,7 @@ module _ (g : Geometry) (image : List ℕ) where
       let b : ltb 0 (labelFault g (labelAt g image slot)) ≡ false = rw l at f in
       omega (arith, ltb-false 0 (labelFault g (labelAt g image slot)) b)
 
-  readable : (slot : ℕ) → isLabel g image slot ≡ true → isUnreadable g image slot ≡ false
+  pub readable : (slot : ℕ) → isLabel g image slot ≡ true → isUnreadable g image slot ≡ false
   unfolding isLabel isUnreadable
   readable slot l =
       let v = and-l (validMark g image (slotOrdinal slot)) _ l in
@@ -196,7 +196,7 @@ module _ (g : Geometry) (image : List ℕ) where
   label-passes slot l f = order-all _ (rw (readable slot l), (rw l, (rw (l, f), tt)))
 
 -- no slot clashes with a lower one
-none-below : (clash : ℕ → ℕ → Bool) (slot n lower : ℕ) → clashesBelow clash slot n ≡ false → 1 ≤ lower → lower ≤ n → clash slot lower ≡ false
+pub none-below : (clash : ℕ → ℕ → Bool) (slot n lower : ℕ) → clashesBelow clash slot n ≡ false → 1 ≤ lower → lower ≤ n → clash slot lower ≡ false
 unfolding clashesBelow
 none-below clash slot zero lower h l m = absurd (omega arith)
 none-below clash slot (suc n) lower h l m =

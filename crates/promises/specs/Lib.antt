@@ -69,6 +69,9 @@ pub mod NeededLaws
 pub mod SectorWrites
 -- Refusals: each given exactly when its list says so.
 pub mod Refusing
+pub mod FindingLaws
+pub mod FreeLaws
+pub mod PlacesNamed
 -- THE DEMANDS
 pub mod Demands
 -- The promises hold of something.

@@ -45,7 +45,7 @@ pub record First (r : Refusal) (list : List Checked) : Type 0 where
   pub stands : list ≡ earlier ++ (Stopped r ∷ later)
   pub none-earlier : NoneGiven earlier
 
-never : {A : Type 0} → _≡_ {A = ℕ} 0 1 → A
+pub never : {A : Type 0} → _≡_ {A = ℕ} 0 1 → A
 never z = absurd (omega (arith, z))
 
 pub order-first : (list : List Checked) (r : Refusal) → inOrder list ≡ Stopped r → First r list
