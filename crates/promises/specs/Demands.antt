@@ -7,14 +7,14 @@ use mathlib.Core.Path.{_≡_, sym, ap, subst, _∙_}
 use mathlib.Core.Bool.{Bool, true, false}
 use mathlib.Core.Logic.{_⊎_}
 use mathlib.Core.List.{List, _∷_, [], _++_, map, List·Memᴰ}
-use lib.ListN.{length, getD, take}
+use lib.ListN.{length, getD, take, drop}
 use Rattle.standard.specs.Refusals.{refuse}
-use Rattle.standard.specs.Layout.{indexSectors, labelAt}
-use Rattle.standard.specs.Addresses.{ordinal, fiveBytes}
-use Rattle.standard.specs.Slots.{hasLabel}
+use Rattle.standard.specs.Layout.{indexSectors, labelAt, slotCount, labelOffset}
+use Rattle.standard.specs.Addresses.{ordinal, fiveBytes, addressCount}
+use Rattle.standard.specs.Slots.{hasLabel, isLabel}
 use Rattle.standard.specs.Judgement.{judged, volumeOf, volumeList}
-use Rattle.standard.specs.Finding.{found, foundAt}
-use Rattle.standard.specs.Free.{freeCount}
+use Rattle.standard.specs.Finding.{found, foundAt, labelNamed}
+use Rattle.standard.specs.Free.{freeCount, freeRecords}
 use Rattle.standard.specs.Files.{extent, blockCount, countList, counted, openList, openRefusal, fileIn}
 use Rattle.standard.specs.Records.{Mode, salvage, Record, rec, listed, inFile}
 use Rattle.standard.specs.Places.{start}
@@ -27,7 +27,7 @@ use Rattle.standard.specs.declared.Refusal.{Refusal}
 use Rattle.standard.specs.declared.Answer.the-variants.{Unanswered, Gap, End}
 use Rattle.standard.specs.declared.Checked.the-variants.{Passed}
 use Rattle.standard.specs.declared.Counted.the-variants.{Uncounted, Count}
-use Rattle.standard.specs.declared.Found.the-variants.{Unfound}
+use Rattle.standard.specs.declared.Found.the-variants.{Unfound, At}
 use Rattle.standard.specs.declared.Judged.the-variants.{Refused, Volume}
 use Rattle.standard.specs.declared.Written.the-variants.{Unwritten, Blocks}
 use Rattle.promises.specs.Refusing.{Exactly, First, accepted-write, volume-first, volume-stops, count-first, unopened, not-in-file, write-first, refusal-lays-nothing, gap-lays-nothing, end-lays-nothing, refusal-writes-nothing}
@@ -46,13 +46,17 @@ use Rattle.promises.specs.Determined.{Determinate, by-function, one-resu
 use Rattle.standard.specs.Characters.{field}
 use Rattle.standard.specs.declared.Written.{Written}
 use Rattle.standard.specs.declared.Answer.{Answer}
+use Rattle.promises.specs.FindingLaws.{find-named, find-none, label-handed-out}
+use Rattle.promises.specs.FreeLaws.{extentsBelow, free-counted, free-is}
+use Rattle.standard.specs.Labels.{knownLevel, nameOf}
 
 -- ======== DEMAND 1
 -- "Every image, name, place and length is taken, untested by the caller." Each definition below is a function of any lists of bytes and any numbers, so
 -- there is an answer to every input.
 
 -- "Bad input gets the numbered refusal of document 01, exactly when its list says so". `First r list`: r is the first of the list that is given.
--- `Exactly A B`: each follows from the other. The lists stand in Judgement, Files and Writing.
+-- `Exactly A B`: each follows from the other. The lists stand in Judgement, Files and Writing; which sector, position, slot or record each of their entries
+-- names as its place is proved in PlacesNamed, exactly too.
 pub volume-refused : (image : List ℕ) (r : Refusal) → Exactly (judged image ≡ Refused r) (First r (volumeList image (volumeOf image)))
 volume-refused = volume-first
 
@@ -110,6 +114,29 @@ pub sharing-no-record : (image : List ℕ) (g : Geometry) (slot other : ℕ) (a 
     → List·Memᴰ a (extent g (labelAt g image slot)) → List·Memᴰ b (extent g (labelAt g image other))
     → ordinal g a ≡ ordinal g b → slot ≡ other
 sharing-no-record = no-record-shared
+
+-- what is found and handed out: "Names are 17 bytes, found among levels space, 1, 2 only"; "A file's label is handed out as the 128 bytes in the image itself"
+module _ (image : List ℕ) (g : Geometry) (accepted : judged image ≡ Volume g) where
+  pub finding-gives : (name : List ℕ) (slot offset : ℕ)
+      → Exactly (found image name ≡ At slot offset)
+      ((1 ≤ slot) × (slot ≤ slotCount g) × (isLabel g image slot ≡ true) × (knownLevel (labelAt g image slot) ≡ true)
+      × (nameOf (labelAt g image slot) ≡ name) × (offset ≡ labelOffset g slot))
+  finding-gives = find-named image g accepted
+
+  pub finding-none : (name : List ℕ) (r : Refusal)
+      → Exactly (found image name ≡ Unfound r)
+      ((r ≡ refuse 13 0)
+      × ((slot : ℕ) → 1 ≤ slot → slot ≤ slotCount g → isLabel g image slot ≡ true → knownLevel (labelAt g image slot) ≡ true
+      → nameOf (labelAt g image slot) ≡ name → ⊥))
+  finding-none = find-none image g accepted
+
+  pub label-given : (name : List ℕ) (slot offset : ℕ) → found image name ≡ At slot offset
+      → (labelNamed image name ≡ take 128 (drop offset image)) × (length (labelNamed image name) ≡ 128)
+  label-given = label-handed-out image g accepted
+
+  -- the free records: all data addresses less the sizes of the labels' extents
+  pub free-gives : (freeCount image ≡ Count (freeRecords g image)) × (freeRecords g image + extentsBelow g image (slotCount g) ≡ addressCount g)
+  free-gives = (free-counted image g accepted, free-is image g accepted)
 
 -- "reading gives exactly the records the standard puts there". `listed` is the declared list, straight from the blocks; `following n`: what a caller hears
 -- (`heard`) who reads Start and then each place that is handed out, n times. `Fits`: the output has room for every record.
