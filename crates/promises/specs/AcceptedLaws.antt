@@ -48,7 +48,7 @@ address-legal : (g : Geometry) (f : List ℕ) → isAddress g f ≡ true → leg
 unfolding isAddress
 address-legal g f h = and-r (fiveDigits f) _ h
 
-fault-none : (g : Geometry) (h : List ℕ) → labelFault g h ≡ 0 → InRange g h
+pub fault-none : (g : Geometry) (h : List ℕ) → labelFault g h ≡ 0 → InRange g h
 unfolding labelFault hdr1Rules rule29 rule35 before
 fault-none g h z =
     let (r1, (r6, (r23, (r29, (r35, _))))) = rows-each _ z refl in
@@ -74,7 +74,7 @@ pub bounds-extent : (g : Geometry) (h : List ℕ) (i : ℕ) → rank g (startOf 
 unfolding inExtent
 bounds-extent g h i lo hi = rw (le-leb (rank g (startOf h)) i lo, le-leb i (rank g (endOf h)) hi)
 
-no-overlap : (g : Geometry) (h k : List ℕ) (i : ℕ) → overlap g h k ≡ false → inExtent g h i ≡ true → inExtent g k i ≡ true → ⊥
+pub no-overlap : (g : Geometry) (h k : List ℕ) (i : ℕ) → overlap g h k ≡ false → inExtent g h i ≡ true → inExtent g k i ≡ true → ⊥
 unfolding overlap
 no-overlap g h k i o a b =
     let x = extent-bounds g h i a in

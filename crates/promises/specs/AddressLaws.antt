@@ -25,7 +25,7 @@ mixed-lt x s y L S D hx hs hy =
 digit-lt : (x x′ y y′ D : ℕ) → y < D → x * D + y ≡ x′ * D + y′ → x < x′ → ⊥
 digit-lt x x′ y y′ D hy e l = omega (arith, mul-le-mul-right D l)
 
-digit-inj : (x x′ y y′ D : ℕ) → y < D → y′ < D → x * D + y ≡ x′ * D + y′ → x ≡ x′
+pub digit-inj : (x x′ y y′ D : ℕ) → y < D → y′ < D → x * D + y ≡ x′ * D + y′ → x ≡ x′
 digit-inj x x′ y y′ D hy hy′ e =
     either (lt-or-le x x′)
     (λ (l : x < x′). absurd (digit-lt x x′ y y′ D hy e l))

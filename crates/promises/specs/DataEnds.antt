@@ -72,7 +72,7 @@ module _ (g : Geometry) where
       let b = rising-at (suc (rank g a)) hi xs (r .3) k (omega arith) d in
       rw (lt-ltb (rank g a) (rank g (getD xs k d)) (b .1), count-at (suc (rank g a)) hi xs (r .3) k (omega arith) d) (omega arith)
 
-  later-at : (lo hi : ℕ) (xs : List Address) → Rising g lo hi xs → (k : ℕ) → k < length xs → 1 ≤ k → (d : Address) → lo < rank g (getD xs k d)
+  pub later-at : (lo hi : ℕ) (xs : List Address) → Rising g lo hi xs → (k : ℕ) → k < length xs → 1 ≤ k → (d : Address) → lo < rank g (getD xs k d)
   later-at lo hi [] r k l o d = absurd (not-suc-le-zero l)
   later-at lo hi (a ∷ xs) r zero l o d = absurd (not-suc-le-zero o)
   later-at lo hi (a ∷ xs) r (suc k) l o d = omega (arith, r .1, rising-at (suc (rank g a)) hi xs (r .3) k (omega arith) d .1)

@@ -58,7 +58,7 @@ step-nexts m f pl = answer-nexts m (f .params) _ _
 
 -- a reading of an accepted image, of a file that may be opened, is one of the file
 module _ (image : List ℕ) (g : Geometry) (slot : ℕ) (j : judged image ≡ Volume g) (ok : openRefusal g image slot ≡ Passed) where
-  abbrev theFile : File
+  abbrev pub theFile : File
   theFile = fileIn g image (labelAt g image slot)
 
   reply-is : (m : Mode) (pl : Place) (room : ℕ) → reply m image slot pl room ≡ replyIn m theFile pl room
@@ -78,7 +78,7 @@ module _ (image : List ℕ) (g : Geometry) (slot : ℕ) (j : judged image ≡ Vo
   unfolding laidOver
   laid-record body out = take-append-seam body (drop (length body) out)
 
-  abbrev Alike : ℕ → Mode → Type 0
+  abbrev pub Alike : ℕ → Mode → Type 0
   Alike n m = (out : List ℕ) (pl : Place) → inFile theFile pl ≡ true → following n m image slot out pl ≡ heardIn (length out) (readOn n m theFile pl)
 
   heard-on : (n : ℕ) (m : Mode) (out : List ℕ) → Alike n m → (s : Met) → Landed theFile s → Nexts s
@@ -104,7 +104,7 @@ module _ (image : List ℕ) (g : Geometry) (slot : ℕ) (j : judged image ≡ Vo
   heard-on n m out ih ended l k = refl
   heard-on n m out ih (refusedBy x) l k = refl
 
-  following-is : (n : ℕ) (m : Mode) → Alike n m
+  pub following-is : (n : ℕ) (m : Mode) → Alike n m
   unfolding following readOn heardIn
   following-is zero m out pl h = refl
   following-is (suc n) m out pl h =

@@ -67,11 +67,18 @@ pub mod ByteSectors
 pub mod StoreLaws
 pub mod NeededLaws
 pub mod SectorWrites
--- Refusals: each given exactly when its list says so.
+-- Refusals: each given exactly when its list says so, and what its place names; what is found; the free records.
 pub mod Refusing
-pub mod FindingLaws
-pub mod FreeLaws
 pub mod PlacesNamed
+pub mod ReadingRefused
+pub mod FindingLaws
+pub mod ExtentWhole
+pub mod FreeLaws
+-- Reading from any place, into any output; what a record given is made of; what a write leaves behind.
+pub mod AnyPlace
+pub mod SalvagedHeard
+pub mod Runs
+pub mod WriteEnds
 -- THE DEMANDS
 pub mod Demands
 -- The promises hold of something.

@@ -24,7 +24,7 @@ module _ (m : Mode) (f : File) where
   take-on n k ih ended = rw (take-nil {A = Item} n)
   take-on n k ih (refusedBy x) = rw (take-nil {A = Item} n)
 
-  fewer : (n k : ℕ) → n ≤ k → (pl : Place) → readOn n m f pl ≡ take n (readOn k m f pl)
+  pub fewer : (n k : ℕ) → n ≤ k → (pl : Place) → readOn n m f pl ≡ take n (readOn k m f pl)
   unfolding readOn
   fewer zero k h pl = refl
   fewer (suc n) zero h pl = absurd (not-suc-le-zero h)
@@ -36,7 +36,7 @@ module _ (m : Mode) (f : File) where
   length-on n ih ended = omega arith
   length-on n ih (refusedBy x) = omega arith
 
-  length-read : (n : ℕ) (pl : Place) → length (readOn n m f pl) ≤ n
+  pub length-read : (n : ℕ) (pl : Place) → length (readOn n m f pl) ≤ n
   unfolding readOn
   length-read zero pl = omega arith
   length-read (suc n) pl = length-on n (λ pl′. length-read n pl′) (step m f pl)
@@ -57,7 +57,7 @@ module _ (m : Mode) (f : File) where
   closed-on n k ih ended c = refl
   closed-on n k ih (refusedBy x) c = refl
 
-  more : (n k : ℕ) → n ≤ k → (pl : Place) → Closed (readOn n m f pl) → readOn k m f pl ≡ readOn n m f pl
+  pub more : (n k : ℕ) → n ≤ k → (pl : Place) → Closed (readOn n m f pl) → readOn k m f pl ≡ readOn n m f pl
   unfolding readOn
   more zero k h pl c = absurd c
   more (suc n) zero h pl c = absurd (not-suc-le-zero h)
@@ -77,7 +77,7 @@ lost-closed : (m : Mode) (b : ℕ) (is : List Item) → Closed is → Closed (jo
 lost-closed plain b is h = refl
 lost-closed salvage b is h = h
 
-join-closed : (m : Mode) (p : Params) (ts : List Token) (st : State) → Closed (join m p ts st)
+pub join-closed : (m : Mode) (p : Params) (ts : List Token) (st : State) → Closed (join m p ts st)
 unfolding join
 join-closed m p [] st = end-closed st
 join-closed m p (part k body b o n ∷ ts) st = move-closed (meet p st k body b) b o (λ st′. join m p ts st′) (λ st′. join-closed m p ts st′)

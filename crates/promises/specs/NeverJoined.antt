@@ -16,7 +16,7 @@ use Rattle.promises.specs.ReadingLaws.{bodyOf}
 never : {A : Type 0} → _≡_ {A = ℕ} 0 1 → A
 never z = absurd (omega (arith, z))
 
-take-mem : {A : Type 0} (n : ℕ) (xs : List A) {x : A} → List·Memᴰ x (take n xs) → List·Memᴰ x xs
+pub take-mem : {A : Type 0} (n : ℕ) (xs : List A) {x : A} → List·Memᴰ x (take n xs) → List·Memᴰ x xs
 take-mem zero xs m = absurd (List·Memᴰ·not-nil m)
 take-mem (suc n) [] m = absurd (List·Memᴰ·not-nil m)
 take-mem (suc n) (y ∷ xs) {x} m =
@@ -36,7 +36,7 @@ ending-mem gone b (q ∷ rs) r m = go (eqb (q .lastBlock) b && spared gone q) m 
         (λ (l : List·Memᴰ (rec r) (endingIn gone b rs)). List·Memᴰ·tail (ih l))
     go false k ih = List·Memᴰ·tail (ih k)
 
-remains-mem : (gone : ℕ → Bool) (b n : ℕ) (rs : List Record) (r : Record) → List·Memᴰ (rec r) (remains gone b n rs) → List·Memᴰ r rs
+pub remains-mem : (gone : ℕ → Bool) (b n : ℕ) (rs : List Record) (r : Record) → List·Memᴰ (rec r) (remains gone b n rs) → List·Memᴰ r rs
 unfolding remains
 remains-mem gone b zero rs r m = absurd (List·Memᴰ·not-nil m)
 remains-mem gone b (suc n) rs r m =

@@ -165,7 +165,7 @@ module _ (p : Params) (bs : List Block) (b : ℕ) (c : List ℕ) (xs : List Bloc
   tokens-chained o (piece middle body s) l ih = ((λ v. absurd v), rest-chained (isFill (drop s (drop o c))) (o + s))
   tokens-chained o (piece last body s) l ih = rw drop-drop ((λ _. held-ahead p bs b c xs e (o + s)), ih s (l .0) (l .1))
 
-  pieces-chained : (n o : ℕ) → length c < n + o → Chained p bs (pieces p b o (drop o c) ++ inBlocks p (suc b) xs)
+  pub pieces-chained : (n o : ℕ) → length c < n + o → Chained p bs (pieces p b o (drop o c) ++ inBlocks p (suc b) xs)
   pieces-chained zero o h = rw (pieces-eq, drop-of-length-le c {i = o} (omega arith), look-nil) later
   pieces-chained (suc n) o h =
       rw pieces-eq (tokens-chained o (look p o (drop o c)) (look-sound p o (drop o c)) (λ s l u. pieces-chained n (o + s) (omega arith)))

@@ -68,7 +68,7 @@ unfolding inFile
 in-block f b o h l a g = rw (lt-ltb b (length (f .blocks)) h, le-leb o (sizeOf (getD (f .blocks) b (held []))) l, a)
 
 -- the start of a block, and of the one behind the last
-in-start : (f : File) (b : ℕ) → b ≤ length (f .blocks) → InFile f b 0
+pub in-start : (f : File) (b : ℕ) → b ≤ length (f .blocks) → InFile f b 0
 unfolding inFile
 in-start f b h g = go (ltb b (length (f .blocks))) refl
   where
@@ -130,7 +130,7 @@ module _ (f : File) (b : ℕ) (c : List ℕ) (inside : b < length (f .blocks)) (
       rw pieces-eq (tokens-land o (look (f .params) o (drop o c)) (look-sound (f .params) o (drop o c))
       (lookIn-stride (f .params .format) (f .params .R) (f .params .blocked) o (drop o c)) w (λ s l w′. pieces-land n (o + s) (omega arith) w′))
 
-drop-inside : {A : Type 0} (b : ℕ) (bs : List A) (x d : A) (xs : List A) → drop b bs ≡ x ∷ xs → (b < length bs) × (getD bs b d ≡ x)
+pub drop-inside : {A : Type 0} (b : ℕ) (bs : List A) (x d : A) (xs : List A) → drop b bs ≡ x ∷ xs → (b < length bs) × (getD bs b d ≡ x)
 drop-inside {A = A} b bs x d xs e =
     let l : length (drop b bs) ≡ length bs - b = length-drop b bs in
     let l′ : length (drop b bs) ≡ suc (length xs) = ap length e in

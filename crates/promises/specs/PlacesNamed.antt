@@ -6,20 +6,19 @@ use mathlib.Core.Path.{_≡_, refl, sym, ap, subst, _∙_}
 use mathlib.Core.Bool.{Bool, true, false, cond, not, _&&_, _||_}
 use mathlib.Core.List.{List, [], _∷_, _++_}
 use lib.ListN.{length}
-use lib.Dec.{leb, ltb}
+use lib.Dec.{ltb}
 use native.Mathlib.Omega.{arith}
 use native.Mathlib.Nat.{eq-or-lt-of-le}
-use borrow.Author.Tests.{ltb-true, lt-ltb, leb-true, le-leb, not-true, not-false}
+use borrow.Author.Tests.{ltb-true, lt-ltb, not-true, not-false}
 use Rattle.standard.specs.Refusals.{refuse, refuseAt, given-when, inOrder, orElse}
 use Rattle.standard.specs.Rules.{Row, row, lowestFault}
 use Rattle.standard.specs.Layout.{slotCount, sectorCount, labelAt}
 use Rattle.standard.specs.Volume.{vol1Rules}
 use Rattle.standard.specs.Defects.{ermapRules}
-use Rattle.standard.specs.Addresses.{rank, ordinal}
-use Rattle.standard.specs.Labels.{knownLevel, nameOf, startOf, endOf, hdr1Rules, labelFault}
+use Rattle.standard.specs.Addresses.{ordinal}
+use Rattle.standard.specs.Labels.{knownLevel, nameOf, hdr1Rules, labelFault}
 use Rattle.standard.specs.Slots.{isLabel, isDeleted, isUnreadable, slotRefusal, slotsFrom}
-use Rattle.standard.specs.Judgement.{legalKind, kindsFrom, refusal3, refusal6, refusal7, refusal8to10, clashesBelow, clashesFrom, overlap, shares, sameName, namesake, refusal11, refusal12}
-use Rattle.standard.specs.Free.{inExtent}
+use Rattle.standard.specs.Judgement.{legalKind, kindsFrom, refusal3, refusal6, refusal7, refusal8to10, clashesBelow, clashesFrom, shares, sameName, namesake, refusal11, refusal12}
 use Rattle.standard.specs.Files.{isWrong, wrongAmong}
 use Rattle.standard.specs.Writing.{wrongLength, lengthsFrom}
 use Rattle.standard.specs.declared.Geometry.{Geometry}
@@ -27,10 +26,9 @@ use Rattle.standard.specs.declared.Address.{Address}
 use Rattle.standard.specs.declared.Refusal.{Refusal}
 use Rattle.standard.specs.declared.Checked.{Checked}
 use Rattle.standard.specs.declared.Checked.the-variants.{Passed, Stopped}
-use Rattle.promises.specs.Basics.{either, lt-or-le, by-test, true-not-false, and-l, and-r, or-rest}
+use Rattle.promises.specs.Basics.{either, by-test, true-not-false, and-l, and-r, or-rest}
 use Rattle.promises.specs.Lists.{Every}
 use Rattle.promises.specs.Judging.{numbered, none-below, readable}
-use Rattle.promises.specs.AcceptedLaws.{extent-bounds, bounds-extent}
 use Rattle.promises.specs.Refusing.{Exactly, never}
 use Rattle.promises.specs.FindingLaws.{same-exactly}
 
@@ -455,42 +453,8 @@ place-11 g image r = lowest-clash (shares g image) 11 (slotCount g) r
 pub place-12 : (g : Geometry) (image : List ℕ) (r : Refusal) → Exactly (refusal12 g image ≡ Stopped r) (LowestClash (namesake g image) 12 (slotCount g) r)
 place-12 g image r = lowest-clash (namesake g image) 12 (slotCount g) r
 
--- two labels clash: an address in both extents (of labels without fault, whose starts are not behind their ends); one name, both levels known
-pub record Shared (g : Geometry) (h k : List ℕ) : Type 0 where
-  pub address : ℕ
-  pub in-one : inExtent g h address ≡ true
-  pub in-other : inExtent g k address ≡ true
-
+-- two labels clash by their names: one name, both levels known. (By their extents: ExtentWhole.)
 module _ (g : Geometry) (image : List ℕ) (slot lower : ℕ) where
-  pub share-exactly : rank g (startOf (labelAt g image slot)) ≤ rank g (endOf (labelAt g image slot))
-      → rank g (startOf (labelAt g image lower)) ≤ rank g (endOf (labelAt g image lower))
-      → Exactly (shares g image slot lower ≡ true)
-      ((isLabel g image slot ≡ true) × (isLabel g image lower ≡ true) × Shared g (labelAt g image slot) (labelAt g image lower))
-  unfolding shares overlap
-  share-exactly o p = (
-    (λ s.
-        let h = labelAt g image slot in
-        let k = labelAt g image lower in
-        let labels = and-l (isLabel g image slot && isLabel g image lower) _ s in
-        let over = and-r (isLabel g image slot && isLabel g image lower) _ s in
-        let x = leb-true (rank g (startOf h)) (rank g (endOf k)) (and-l (leb (rank g (startOf h)) (rank g (endOf k))) _ over) in
-        let y = leb-true (rank g (startOf k)) (rank g (endOf h)) (and-r (leb (rank g (startOf h)) (rank g (endOf k))) _ over) in (
-          and-l (isLabel g image slot) _ labels,
-          and-r (isLabel g image slot) _ labels,
-          either (lt-or-le (rank g (startOf h)) (rank g (startOf k)))
-              (λ (l : rank g (startOf h) < rank g (startOf k)).
-              record { address = rank g (startOf k); in-one = bounds-extent g h (rank g (startOf k)) (omega arith) y; in-other = bounds-extent g k (rank g (startOf k)) (omega arith) p })
-              (λ (l : rank g (startOf k) ≤ rank g (startOf h)).
-              record { address = rank g (startOf h); in-one = bounds-extent g h (rank g (startOf h)) (omega arith) o; in-other = bounds-extent g k (rank g (startOf h)) l x }),
-        )),
-    (λ f.
-        let h = labelAt g image slot in
-        let k = labelAt g image lower in
-        let b = extent-bounds g h (f .2 .address) (f .2 .in-one) in
-        let c = extent-bounds g k (f .2 .address) (f .2 .in-other) in
-        rw (f .0, f .1, le-leb (rank g (startOf h)) (rank g (endOf k)) (omega (arith, b, c)), le-leb (rank g (startOf k)) (rank g (endOf h)) (omega (arith, b, c)))),
-  )
-
   pub namesake-exactly : Exactly (namesake g image slot lower ≡ true)
       ((isLabel g image slot ≡ true) × (isLabel g image lower ≡ true) × (knownLevel (labelAt g image slot) ≡ true) × (knownLevel (labelAt g image lower) ≡ true)
       × (nameOf (labelAt g image slot) ≡ nameOf (labelAt g image lower)))

@@ -78,7 +78,7 @@ module _ (image : List ℕ) (g : Geometry) (slot : ℕ) (bodies lengths : List �
   room = numbers-of image g j .size-low
 
   -- setting the label leaves the data
-  set-same : (a : Address) → legal g a ≡ true → SameSector g st t a
+  pub set-same : (a : Address) → legal g a ≡ true → SameSector g st t a
   unfolding imageWith
   set-same a la =
       set-data g (numbers-of image g j) slot (slot-inside image g slot bodies lengths j w) U (dataEnd image g slot bodies lengths j w) st

@@ -47,10 +47,10 @@ entering-marked variable = refl
 entering-marked spanned = refl
 
 -- n + 1 readings from where the tokens `ts` lie ahead give the list of `ts`
-Onward : Mode → File → ℕ → List Token → State → Type 0
+pub Onward : Mode → File → ℕ → List Token → State → Type 0
 Onward m f n ts st = follow (answer m (f .params) ts st) (λ pl. readOn n m f pl) ≡ join m (f .params) ts st
 
-one-more : (m : Mode) (f : File) (n : ℕ) (pl : Place) (ts : List Token) (st : State) → ahead (f .params) (f .blocks) (pl .block) (pl .offset) ≡ ts
+pub one-more : (m : Mode) (f : File) (n : ℕ) (pl : Place) (ts : List Token) (st : State) → ahead (f .params) (f .blocks) (pl .block) (pl .offset) ≡ ts
     → entering m (f .params .format) (pl .offset) (pl .mark) ≡ st → Onward m f n ts st → readOn (suc n) m f pl ≡ join m (f .params) ts st
 unfolding readOn step Onward
 one-more m f n pl ts st a s h = rw (a, s) h
@@ -72,7 +72,7 @@ lost-onward salvage f n b ts a ih =
     ap (λ (is : List Item). gap b ∷ is)
     (one-more salvage f n (record { block = suc b; offset = 0; mark = true }) ts (stateAfterGap (f .params .format)) a (entering-marked (f .params .format)) (ih _))
 
-onward : (m : Mode) (f : File) (ts : List Token) → Chained (f .params) (f .blocks) ts → (n : ℕ) → length ts ≤ n → (st : State) → Onward m f n ts st
+pub onward : (m : Mode) (f : File) (ts : List Token) → Chained (f .params) (f .blocks) ts → (n : ℕ) → length ts ≤ n → (st : State) → Onward m f n ts st
 unfolding Onward answer join
 onward m f [] c n h fresh = refl
 onward m f [] c n h marked = refl

@@ -78,7 +78,7 @@ volume-first image r = (
 )
 
 -- a reading's reply, and a write's outcome, by the judgement of the volume
-abbrev replyOn : Judged → Mode → List ℕ → ℕ → Place → ℕ → Reply
+abbrev pub replyOn : Judged → Mode → List ℕ → ℕ → Place → ℕ → Reply
 replyOn v m image slot pl room = onVolume v unanswered (λ g. opened (openRefusal g image slot) (replyIn m (fileIn g image (labelAt g image slot)) pl room))
 
 abbrev outcomeDone : Geometry → List ℕ → ℕ → List ℕ → List ℕ → Outcome

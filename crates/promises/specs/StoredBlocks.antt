@@ -52,7 +52,7 @@ module _ (g : Geometry) where
   behind a la lo hi l xs r =
       every-map (Between g lo hi) (NotOf g (ordinal g a)) (λ b k. (k .0, addresses-apart g a la b (k .0) (omega (arith, k .1)))) xs (rising-every g lo hi xs r)
 
-  front-back : (m lo hi : ℕ) (xs : List Address) → Rising g lo hi xs → Every (λ a. Every (NotOf g (ordinal g a)) (drop m xs)) (take m xs)
+  pub front-back : (m lo hi : ℕ) (xs : List Address) → Rising g lo hi xs → Every (λ a. Every (NotOf g (ordinal g a)) (drop m xs)) (take m xs)
   front-back zero lo hi xs r = tt
   front-back (suc m) lo hi [] r = tt
   front-back (suc m) lo hi (a ∷ xs) r = (
@@ -62,16 +62,16 @@ module _ (g : Geometry) where
 
   -- one block
   module _ (a : Address) (xs : List Address) (lo hi : ℕ) (c s : List ℕ) (r : Rising g lo hi (a ∷ xs)) (l : WholeImage g s) where
-    abbrev one : List ℕ
+    abbrev pub one : List ℕ
     one = storeRecord g (ordinal g a) (take (g .P) c) s
 
-    small : length (take (g .P) c) ≤ g .P
+    pub small : length (take (g .P) c) ≤ g .P
     small = omega (arith, length-take (g .P) c)
 
-    one-whole : WholeImage g one
+    pub one-whole : WholeImage g one
     one-whole = store-length g a (take (g .P) c) s (r .0) small l ∙ l
 
-    rest-same : SameSector g one (storeBlock g xs (drop (g .P) c) one) a
+    pub rest-same : SameSector g one (storeBlock g xs (drop (g .P) c) one) a
     rest-same = block-other g one one-whole (ordinal g a) xs (drop (g .P) c) (behind a (r .0) (suc (rank g a)) hi (omega arith) xs (r .3))
 
     head-body : bodyAt g (storeBlock g xs (drop (g .P) c) one) (ordinal g a) ≡ filledTo (g .P) (take (g .P) c)
