@@ -2,53 +2,64 @@
 -- names in the statements are the definitions of crates/standard, which contracts cite; the few that are not are said where they first stand. `A → B`: if A
 -- then B; `A × B`: both; `A ⊎ B`: one of them; `A → ⊥`: not A; `Passed`: no refusal of the list is given; `getD x i 0`: the byte at i.
 -- Assumes nothing.
-use Prim.Native.Nat.{ℕ, _+_, _*_, _≤_}
-use mathlib.Core.Path.{_≡_, sym, ap, subst, _∙_}
-use mathlib.Core.Bool.{Bool, true, false}
+use Prim.Native.Nat.{ℕ, _+_, _*_, _≤_, suc, _<_}
+use mathlib.Core.Path.{_≡_, sym, ap, _∙_}
+use mathlib.Core.Bool.{Bool, true}
 use mathlib.Core.Logic.{_⊎_}
 use mathlib.Core.List.{List, _∷_, [], _++_, map, List·Memᴰ}
 use lib.ListN.{length, getD, take, drop}
 use Rattle.standard.specs.Refusals.{refuse}
 use Rattle.standard.specs.Layout.{indexSectors, labelAt, slotCount, labelOffset}
-use Rattle.standard.specs.Addresses.{ordinal, fiveBytes, addressCount}
+use Rattle.standard.specs.Addresses.{ordinal, fiveBytes, addressCount, legal, rank, stepped}
 use Rattle.standard.specs.Slots.{hasLabel, isLabel}
-use Rattle.standard.specs.Judgement.{judged, volumeOf, volumeList}
+use Rattle.standard.specs.Judgement.{judged, volumeOf, volumeList, refusal8to10, refusal11}
 use Rattle.standard.specs.Finding.{found, foundAt, labelNamed}
-use Rattle.standard.specs.Free.{freeCount, freeRecords}
-use Rattle.standard.specs.Files.{extent, blockCount, countList, counted, openList, openRefusal, fileIn}
-use Rattle.standard.specs.Records.{Mode, salvage, Record, rec, listed, inFile}
-use Rattle.standard.specs.Places.{start}
+use Rattle.standard.specs.Free.{freeCount, freeRecords, inExtent}
+use Rattle.standard.specs.Files.{extent, blockCount, countList, counted, openRefusal, fileIn, blocksHeld}
+use Rattle.standard.specs.Records.{Mode, salvage, Record, listed, inFile, File}
+use Rattle.standard.specs.Places.{start, endPlace}
 use Rattle.standard.specs.Reading.{Reply, laidOver, readAnswer, outputAfter}
 use Rattle.standard.specs.Writing.{parted, needed, writeList, writeRefusal, written, imageAfter, packing, unusedField, dataEndAfter}
 use Rattle.standard.specs.declared.Geometry.{Geometry}
 use Rattle.standard.specs.declared.Address.{Address}
 use Rattle.standard.specs.declared.Place.{Place}
 use Rattle.standard.specs.declared.Refusal.{Refusal}
-use Rattle.standard.specs.declared.Answer.the-variants.{Unanswered, Gap, End}
-use Rattle.standard.specs.declared.Checked.the-variants.{Passed}
+use Rattle.standard.specs.declared.Answer.the-variants.{Unanswered, Gap, End, Record as RecordOf}
+use Rattle.standard.specs.declared.Checked.the-variants.{Passed, Stopped}
 use Rattle.standard.specs.declared.Counted.the-variants.{Uncounted, Count}
 use Rattle.standard.specs.declared.Found.the-variants.{Unfound, At}
 use Rattle.standard.specs.declared.Judged.the-variants.{Refused, Volume}
 use Rattle.standard.specs.declared.Written.the-variants.{Unwritten, Blocks}
-use Rattle.promises.specs.Refusing.{Exactly, First, accepted-write, volume-first, volume-stops, count-first, unopened, not-in-file, write-first, refusal-lays-nothing, gap-lays-nothing, end-lays-nothing, refusal-writes-nothing}
+use Rattle.promises.specs.Refusing.{Exactly, First, accepted-write, volume-first, volume-stops, count-first, write-first, refusal-lays-nothing, gap-lays-nothing, end-lays-nothing, refusal-writes-nothing}
 use Rattle.promises.specs.VolumePromises.{RecordInRange, extent-in-range, no-record-shared}
 use Rattle.promises.specs.Sectors.{AgreeOn, sectorOf}
-use Rattle.promises.specs.Following.{following, heard, told, done as ended, Fits}
-use Rattle.promises.specs.Failing.{Failed, OfBlocks, ReadsWhole, Salvaged, gone}
+use Rattle.promises.specs.Following.{following, told, done as ended, heardIn}
+use Rattle.promises.specs.Failing.{Failed, OfBlocks, ReadsWhole, Salvaged, Spares, expected}
 use Rattle.promises.specs.ReadingLaws.{bodyOf}
-use Rattle.promises.specs.Promises.{ReadingPromise, reading-promise, SalvagePromise, salvage-promise, LocalityPromise, locality-promise}
-use Rattle.promises.specs.PlainFailed.{PlainlyRead, PlainFailedPromise, plain-failed-promise}
+use Rattle.promises.specs.Promises.{LocalityPromise, locality-promise}
+use Rattle.promises.specs.PlainFailed.{PlainlyRead, PlainFailedAnyPromise, plain-failed-any-promise}
 use Rattle.promises.specs.WritingPromises.{joined, answers, length-stays, accepted-still, unused-set, end-set, records-are, counts, writing-again, writing-stays, readings-stay, counts-stay, names-stay, slots-stay, free-stays}
 use Rattle.promises.specs.WrittenHeard.{RoomFor, written-heard-all}
 use Rattle.promises.specs.ByteSectors.{MayChange, write-changes}
-use Rattle.promises.specs.NeverJoined.{remains-told}
 use Rattle.promises.specs.Determined.{Determinate, by-function, one-result-and-bytes}
 use Rattle.standard.specs.Characters.{field}
 use Rattle.standard.specs.declared.Written.{Written}
 use Rattle.standard.specs.declared.Answer.{Answer}
 use Rattle.promises.specs.FindingLaws.{find-named, find-none, label-handed-out}
 use Rattle.promises.specs.FreeLaws.{extentsBelow, free-counted, free-is}
-use Rattle.standard.specs.Labels.{knownLevel, nameOf}
+use Rattle.standard.specs.Labels.{knownLevel, nameOf, startOf, endOf}
+use Rattle.promises.specs.ReadingRefused.{readList, read-first, record-laid, record-next, gap-next, end-next, LostIn}
+use Rattle.promises.specs.AnyPlace.{listedFrom, following-from}
+use Rattle.promises.specs.FollowingLaws.{following-any}
+use Rattle.promises.specs.ExtentWhole.{extent-exactly, refused-shares}
+use Rattle.promises.specs.AcceptedLaws.{label-in-range}
+use Rattle.promises.specs.WriteEnds.{end-of-none, end-of-all, end-behind}
+use Rattle.promises.specs.AcceptedWrite.{label-range}
+use Rattle.promises.specs.WrittenLabel.{records-some}
+use Rattle.promises.specs.SalvagedHeard.{SalvageHeardPromise, salvage-heard-promise, NeverJoinedAnyPromise, never-joined-any-promise}
+use Rattle.promises.specs.SalvageImage.{only-blocks}
+use Rattle.promises.specs.Runs.{AfterDropped, record-stands}
+use Rattle.standard.specs.Pieces.{ahead}
 
 -- ======== DEMAND 1
 -- "Every image, name, place and length is taken, untested by the caller." Each definition below is a function of any lists of bytes and any numbers, so
@@ -64,14 +75,10 @@ module _ (image : List ℕ) (g : Geometry) (accepted : judged image ≡ Volume g
   pub count-refused : (slot : ℕ) (r : Refusal) → Exactly (counted image slot ≡ Uncounted r) (First r (countList g image slot))
   count-refused = count-first image g accepted
 
-  -- "Reading: 13-19, then 20-22 as blocks are met, 23 last."
-  pub reading-refused : (m : Mode) (slot : ℕ) (pl : Place) (out : List ℕ) (r : Refusal) → First r (openList g image slot)
-      → readAnswer m image slot pl out ≡ Unanswered r
-  reading-refused = unopened image g accepted
-
-  pub place-refused : (m : Mode) (slot : ℕ) (pl : Place) (out : List ℕ) → openRefusal g image slot ≡ Passed
-      → inFile (fileIn g image (labelAt g image slot)) pl ≡ false → readAnswer m image slot pl out ≡ Unanswered (refuse 19 0)
-  place-refused = not-in-file image g accepted
+  -- "Reading: 13-19, then 20-22 as blocks are met, 23 last": `readList` is that list, in ReadingRefused
+  pub reading-refused : (m : Mode) (slot : ℕ) (pl : Place) (out : List ℕ) (r : Refusal)
+      → Exactly (readAnswer m image slot pl out ≡ Unanswered r) (First r (readList m g image slot pl (length out)))
+  reading-refused = read-first image g accepted
 
   pub writing-refused : (slot : ℕ) (bodies lengths : List ℕ) (r : Refusal)
       → Exactly (written image slot bodies lengths ≡ Unwritten r) (First r (writeList g image slot bodies lengths))
@@ -87,7 +94,8 @@ pub file-call-refused : (image : List ℕ) (r : Refusal) → judged image ≡ Re
     × ((slot : ℕ) (bodies lengths : List ℕ) → written image slot bodies lengths ≡ Unwritten r)
 file-call-refused = volume-stops
 
--- "and a refusal changes no byte of the image or of the output." (Only a write has the image to change.) "gap and End change none."
+-- "and a refusal changes no byte of the image or of the output." (Only a write has the image to change.) "Bytes behind a record in the output stay too; gap
+-- and End change none."
 module _ (m : Mode) (image : List ℕ) (slot : ℕ) (pl : Place) (out : List ℕ) where
   pub refused-reading-stays : (r : Refusal) → readAnswer m image slot pl out ≡ Unanswered r → outputAfter m image slot pl out ≡ out
   refused-reading-stays = refusal-lays-nothing m image slot pl out
@@ -97,6 +105,10 @@ module _ (m : Mode) (image : List ℕ) (slot : ℕ) (pl : Place) (out : List ℕ
 
   pub end-stays : (next : Place) → readAnswer m image slot pl out ≡ End next → outputAfter m image slot pl out ≡ out
   end-stays = end-lays-nothing m image slot pl out
+
+  pub record-stays : (k : ℕ) (next : Place) → readAnswer m image slot pl out ≡ RecordOf k next
+      → (k ≤ length out) × (drop k (outputAfter m image slot pl out) ≡ drop k out) × (length (outputAfter m image slot pl out) ≡ length out)
+  record-stays = record-laid m image slot pl out
 
 pub refused-writing-stays : (image : List ℕ) (slot : ℕ) (bodies lengths : List ℕ) (r : Refusal)
     → written image slot bodies lengths ≡ Unwritten r → imageAfter image slot bodies lengths ≡ image
@@ -114,6 +126,16 @@ pub sharing-no-record : (image : List ℕ) (g : Geometry) (slot other : ℕ) (a 
     → List·Memᴰ a (extent g (labelAt g image slot)) → List·Memᴰ b (extent g (labelAt g image other))
     → ordinal g a ≡ ordinal g b → slot ≡ other
 sharing-no-record = no-record-shared
+
+-- and an extent has exactly the addresses from its start to its end, so that 11 refuses no volume whose extents share no record
+pub extent-is : (image : List ℕ) (g : Geometry) (slot : ℕ) (a : Address) → judged image ≡ Volume g → hasLabel g image slot ≡ true
+    → Exactly (List·Memᴰ a (extent g (labelAt g image slot))) ((legal g a ≡ true) × (inExtent g (labelAt g image slot) (rank g a) ≡ true))
+extent-is image g slot a accepted h = extent-exactly g (labelAt g image slot) a (label-in-range image g slot accepted h)
+
+pub refused-for-sharing : (g : Geometry) (image : List ℕ) (r : Refusal) → refusal8to10 g image ≡ Passed → refusal11 g image ≡ Stopped r
+    → (slot lower : ℕ) × (r ≡ refuse 11 slot) × (lower < slot) × (hasLabel g image slot ≡ true) × (hasLabel g image lower ≡ true)
+    × (a : Address) × List·Memᴰ a (extent g (labelAt g image slot)) × List·Memᴰ a (extent g (labelAt g image lower))
+refused-for-sharing = refused-shares
 
 -- what is found and handed out: "Names are 17 bytes, found among levels space, 1, 2 only"; "A file's label is handed out as the 128 bytes in the image itself"
 module _ (image : List ℕ) (g : Geometry) (accepted : judged image ≡ Volume g) where
@@ -138,13 +160,34 @@ module _ (image : List ℕ) (g : Geometry) (accepted : judged image ≡ Volume g
   pub free-gives : (freeCount image ≡ Count (freeRecords g image)) × (freeRecords g image + extentsBelow g image (slotCount g) ≡ addressCount g)
   free-gives = (free-counted image g accepted, free-is image g accepted)
 
--- "reading gives exactly the records the standard puts there". `listed` is the declared list, straight from the blocks; `following n`: what a caller hears
--- (`heard`) who reads Start and then each place that is handed out, n times. `Fits`: the output has room for every record.
-pub reading-gives : (image : List ℕ) (g : Geometry) (slot : ℕ) → judged image ≡ Volume g → openRefusal g image slot ≡ Passed
-    → (m : Mode) (n : ℕ) (out : List ℕ) → Fits (length out) (listed m (fileIn g image (labelAt g image slot)))
-    → following n m image slot out start ≡ take n (map heard (listed m (fileIn g image (labelAt g image slot))))
-unfolding ReadingPromise
-reading-gives = reading-promise
+-- "reading gives exactly the records the standard puts there". `listed` is the declared list, straight from the blocks, and `listedFrom` the same from a
+-- place on; `following n`: what a caller hears who reads a place and then each place that is handed out, at most n times, stopping at End or a refusal;
+-- `heardIn room`: the list as it is heard with so much room in the output, which is the list itself up to a record that is too long, where 23 is heard.
+module _ (image : List ℕ) (g : Geometry) (slot : ℕ) (accepted : judged image ≡ Volume g) (opens : openRefusal g image slot ≡ Passed) where
+  abbrev file : File
+  file = fileIn g image (labelAt g image slot)
+
+  pub reading-gives : (m : Mode) (n : ℕ) (out : List ℕ) → following n m image slot out start ≡ heardIn (length out) (take n (listed m file))
+  reading-gives = following-any image g slot accepted opens
+
+  -- "Any place in the file may be asked"
+  pub reading-gives-from : (m : Mode) (n : ℕ) (out : List ℕ) (pl : Place) → inFile file pl ≡ true
+      → following n m image slot out pl ≡ heardIn (length out) (take n (listedFrom m file pl))
+  reading-gives-from = following-from image g slot accepted opens
+
+-- every place handed out is in the file; a gap's is the start, marked, of the block behind a lost one; End's is (count, 0)
+module _ (image : List ℕ) (g : Geometry) (accepted : judged image ≡ Volume g) (m : Mode) (slot : ℕ) (pl : Place) (out : List ℕ) (next : Place) where
+  pub record-leads : (k : ℕ) → readAnswer m image slot pl out ≡ RecordOf k next → inFile (fileIn g image (labelAt g image slot)) next ≡ true
+  record-leads = record-next image g accepted m slot pl out next
+
+  pub gap-leads : readAnswer m image slot pl out ≡ Gap next
+      → (inFile (fileIn g image (labelAt g image slot)) next ≡ true)
+      × (b : ℕ) × LostIn (fileIn g image (labelAt g image slot)) b × (next ≡ record { block = suc b; offset = 0; mark = true })
+  gap-leads = gap-next image g accepted m slot pl out next
+
+  pub end-leads : readAnswer m image slot pl out ≡ End next
+      → (inFile (fileIn g image (labelAt g image slot)) next ≡ true) × (next ≡ endPlace (blockCount g image (labelAt g image slot)))
+  end-leads = end-next image g accepted m slot pl out next
 
 -- "an accepted write reads back as its list and changes no byte but the sectors it fills and two fields of the label." A write is accepted where it
 -- answers with a number of blocks. `parted bodies lengths`: the list, record by record. `MayChange`: the byte is in a sector of the blocks filled, or in
@@ -183,6 +226,17 @@ module _ (image : List ℕ) (g : Geometry) (slot : ℕ) (bodies lengths : List �
       × (field (labelAt g after slot) 75 79 ≡ fiveBytes (dataEndAfter g image label (needed label bodies lengths)))
   write-sets = (unused-set image g slot bodies lengths accepted passed, end-set image g slot bodies lengths accepted passed)
 
+  -- "start for 0 blocks; the first good record of the next block if a whole one is left; else the step past the extent's end": behind the start wherever
+  -- there is a block, however the blocks end in tracks, sides and cylinders
+  pub write-carries : (n ≡ 0 → dataEndAfter g image label n ≡ startOf label)
+      × (0 < n → blocksHeld g image label ≤ n → dataEndAfter g image label n ≡ stepped g (endOf label))
+      × (0 < n → rank g (startOf label) < rank g (dataEndAfter g image label n))
+  write-carries = (
+    (λ e. ap (dataEndAfter g image label) e ∙ end-of-none g image label),
+    (λ p l. end-of-all g image label n p l),
+    (λ p. end-behind g image label (label-range image g slot bodies lengths accepted passed) (records-some image g slot bodies lengths accepted passed) n p),
+  )
+
   pub write-stays-accepted : judged after ≡ Volume g
   write-stays-accepted = accepted-still image g slot bodies lengths accepted passed
 
@@ -211,28 +265,40 @@ module _ (image : List ℕ) (g : Geometry) (slot : ℕ) (bodies lengths : List �
   )
 
 -- ======== DEMAND 3
--- "After any of a readable file's sectors fail their check" (`Failed`: the other sectors have the same bytes, those that `hit` names the kind of a failed
--- check and any bytes behind it; `OfBlocks`: they are sectors of the file's blocks), "salvage gives, in order, every record no block of which is lost, one
--- gap per lost block at its place, nothing more" (`Salvaged`: its list, its records, its gaps, and what a caller hears; in Failing).
+-- "After any of a readable file's sectors fail their check" (`ReadsWhole`: plain reading gives these bodies and End; `Failed`: the other sectors have the same
+-- bytes, those that `hit` names have the kind of a failed check and any bytes behind it; `Spares`: any sector may fail but those of the index cylinder and
+-- those of defective records of this file's extent, of which docs/DECISIONS.md, 7.12, tells), "salvage gives, in order, every record no block of which is
+-- lost, one gap per lost block at its place, nothing more" (`Salvaged`: its list, its records, its gaps; in Failing). What a caller hears is that list.
 module _ (image image′ : List ℕ) (g : Geometry) (slot : ℕ) (bodies : List (List ℕ)) (hit : ℕ → Bool) (accepted : judged image ≡ Volume g)
-    (readable : ReadsWhole image slot bodies) (fail : Failed g hit image image′) (of-blocks : OfBlocks g hit image (labelAt g image slot)) where
+    (readable : ReadsWhole image slot bodies) (fail : Failed g hit image image′) (spares : Spares g hit image (labelAt g image slot)) where
   pub salvage-gives : (rs : List Record) × (map bodyOf rs ≡ bodies) × Salvaged g hit image image′ slot rs
-  unfolding SalvagePromise
-  salvage-gives = salvage-promise image image′ g slot bodies hit accepted readable fail of-blocks
+      × ((n : ℕ) (out : List ℕ) → following n salvage image′ slot out start ≡ heardIn (length out) (take n (expected g hit image (labelAt g image slot) rs)))
+  unfolding SalvageHeardPromise
+  salvage-gives = salvage-heard-promise image image′ g slot bodies hit accepted readable fail spares
 
-  -- and plain reading gives the records that end before the first lost block, and then 20 naming it (`PlainlyRead`, in PlainFailed)
+  -- and plain reading gives the records that end before the first lost block, and then 20 naming it; or, if no block is lost, all records and End
+  -- (`PlainlyRead`, in PlainFailed)
   pub plain-gives : (rs : List Record) × (map bodyOf rs ≡ bodies) × PlainlyRead g hit image image′ slot rs
-  unfolding PlainFailedPromise
-  plain-gives = plain-failed-promise image image′ g slot bodies hit accepted readable fail of-blocks
+  unfolding PlainFailedAnyPromise
+  plain-gives = plain-failed-any-promise image image′ g slot bodies hit accepted readable fail spares
 
   -- "No record is ever joined out of two others": whatever salvage gives as a record was a record of the file before
-  pub never-joined : (body : List ℕ) (n : ℕ) (out : List ℕ) → Fits (length out) (map rec (salvage-gives .0))
-      → List·Memᴰ (told body) (following n salvage image′ slot out start) → List·Memᴰ body bodies
-  never-joined body n out room m =
-      let (rs, same, s) = salvage-gives in
-      subst (List·Memᴰ body) same
-      (remains-told (gone g hit image (labelAt g image slot)) (blockCount g image (labelAt g image slot)) n rs body
-      (subst (List·Memᴰ (told body)) (s .answers n out room) m))
+  pub never-joined : (n : ℕ) (out body : List ℕ) → List·Memᴰ (told body) (following n salvage image′ slot out start) → List·Memᴰ body bodies
+  unfolding NeverJoinedAnyPromise
+  never-joined = never-joined-any-promise image image′ g slot bodies hit accepted readable fail spares
+
+-- The sectors of the file's own blocks are among those that may fail.
+pub blocks-may-fail : (image : List ℕ) (g : Geometry) (slot : ℕ) (hit : ℕ → Bool) → judged image ≡ Volume g → openRefusal g image slot ≡ Passed
+    → OfBlocks g hit image (labelAt g image slot) → Spares g hit image (labelAt g image slot)
+blocks-may-fail = only-blocks
+
+-- The same of any image and any place, readable or not: the bytes of a record given are those of one piece `0`, or of pieces `1`, `2`.., `3` one behind the
+-- other, with no lost block between (`AfterDropped`, `Run`; in Runs).
+pub joined-rightly : (image : List ℕ) (g : Geometry) → judged image ≡ Volume g → (m : Mode) (slot : ℕ) (pl : Place) (out : List ℕ) (k : ℕ) (next : Place)
+    → readAnswer m image slot pl out ≡ RecordOf k next
+    → (r : Record) × (take k (outputAfter m image slot pl out) ≡ r .body)
+    × AfterDropped (ahead (fileIn g image (labelAt g image slot) .params) (fileIn g image (labelAt g image slot) .blocks) (pl .block) (pl .offset)) r next
+joined-rightly = record-stands
 
 -- ======== LOCALITY
 -- "Two accepted images equal in the index cylinder and in one file's extent give equal answers to every reading of that file."

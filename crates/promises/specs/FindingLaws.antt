@@ -23,11 +23,11 @@ use Rattle.standard.specs.declared.Judged.{Judged}
 use Rattle.standard.specs.declared.Judged.the-variants.{Refused, Volume}
 use Rattle.standard.specs.declared.Found.{Found}
 use Rattle.standard.specs.declared.Found.the-variants.{Unfound, At}
-use Rattle.promises.specs.Basics.{either, lt-or-le, by-test, true-not-false, and-l, and-r}
+use Rattle.promises.specs.Basics.{either, lt-or-le, by-test, true-not-false, and-l, and-r, never}
 use Rattle.promises.specs.Judging.{accepted, none-clash}
 use Rattle.promises.specs.AcceptedLaws.{image-length, has-slot}
 use Rattle.promises.specs.VolumeNumbers.{numbers-of, label-room}
-use Rattle.promises.specs.Refusing.{Exactly, never}
+use Rattle.promises.specs.Refusing.{Exactly}
 
 -- two lists are the same where they are equal
 pub same-equal : (xs ys : List ℕ) → same xs ys ≡ true → xs ≡ ys

@@ -39,7 +39,6 @@ pub mod FailedLaws
 pub mod Failable
 pub mod WholeLaws
 pub mod SalvageImage
-pub mod NeverJoined
 pub mod Determined
 pub mod Promises
 pub mod PlainFailed

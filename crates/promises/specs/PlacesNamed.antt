@@ -26,10 +26,10 @@ use Rattle.standard.specs.declared.Address.{Address}
 use Rattle.standard.specs.declared.Refusal.{Refusal}
 use Rattle.standard.specs.declared.Checked.{Checked}
 use Rattle.standard.specs.declared.Checked.the-variants.{Passed, Stopped}
-use Rattle.promises.specs.Basics.{either, by-test, true-not-false, and-l, and-r, or-rest}
+use Rattle.promises.specs.Basics.{either, by-test, true-not-false, and-l, and-r, or-rest, never}
 use Rattle.promises.specs.Lists.{Every}
 use Rattle.promises.specs.Judging.{numbered, none-below, readable}
-use Rattle.promises.specs.Refusing.{Exactly, never}
+use Rattle.promises.specs.Refusing.{Exactly}
 use Rattle.promises.specs.FindingLaws.{same-exactly}
 
 -- ---- the first of so many numbers from one on

@@ -35,9 +35,7 @@ use Rattle.promises.specs.Tokens.{At, pieces-at}
 use Rattle.promises.specs.PlaceLaws.{Landed, step-lands, drop-inside, in-start}
 use Rattle.promises.specs.SalvageImage.{file-count}
 use Rattle.promises.specs.Refusing.{Exactly, First, order-first, first-order, replyOn}
-
-never : {A : Type 0} → _≡_ {A = ℕ} 0 1 → A
-never z = absurd (omega (arith, z))
+use Rattle.promises.specs.Basics.{never}
 
 -- 20, 21 or 22, as blocks are met
 abbrev pub metRefusal : Met → Checked

@@ -6,7 +6,6 @@ use mathlib.Core.Bool.{Bool, true, false, cond}
 use mathlib.Core.List.{List, [], _∷_, _++_}
 use lib.ListN.{length}
 use lib.Dec.{ltb}
-use native.Mathlib.Omega.{arith}
 use Rattle.standard.specs.Refusals.{refuse, inOrder}
 use Rattle.standard.specs.Judgement.{volumeOf, volumeList, volumeRefusal, verdict, judged, onVolume}
 use Rattle.standard.specs.Finding.{found, foundAt}
@@ -29,6 +28,7 @@ use Rattle.standard.specs.declared.Answer.{Answer}
 use Rattle.standard.specs.declared.Answer.the-variants.{Unanswered, Record as RecordOf, Gap, End}
 use Rattle.standard.specs.declared.Written.the-variants.{Unwritten, Blocks}
 use Rattle.promises.specs.Lists.{Every}
+use Rattle.promises.specs.Basics.{never}
 
 -- each follows from the other
 abbrev pub Exactly : Type 0 → Type 0 → Type 0
@@ -44,9 +44,6 @@ pub record First (r : Refusal) (list : List Checked) : Type 0 where
   pub later : List Checked
   pub stands : list ≡ earlier ++ (Stopped r ∷ later)
   pub none-earlier : NoneGiven earlier
-
-pub never : {A : Type 0} → _≡_ {A = ℕ} 0 1 → A
-never z = absurd (omega (arith, z))
 
 pub order-first : (list : List Checked) (r : Refusal) → inOrder list ≡ Stopped r → First r list
 unfolding inOrder

@@ -9,7 +9,6 @@ use mathlib.Core.List.{List, [], _∷_, _++_, append-assoc}
 use lib.ListN.{length, take, drop}
 use lib.Seq.{take-append-seam}
 use lib.Dec.{ltb}
-use native.Mathlib.Omega.{arith}
 use Rattle.standard.specs.Refusals.{refuse}
 use Rattle.standard.specs.Layout.{labelAt}
 use Rattle.standard.specs.Judgement.{judged}
@@ -27,9 +26,7 @@ use Rattle.standard.specs.declared.Judged.the-variants.{Volume}
 use Rattle.standard.specs.declared.Answer.{Answer}
 use Rattle.standard.specs.declared.Answer.the-variants.{Unanswered, Record as RecordOf, Gap, End}
 use Rattle.promises.specs.Refusing.{replyOn}
-
-never : {A : Type 0} → _≡_ {A = ℕ} 0 1 → A
-never z = absurd (omega (arith, z))
+use Rattle.promises.specs.Basics.{never}
 
 -- THE REST OF A SPANNED RECORD: any number of `2`, then a `3`, right behind each other, of these bodies joined; the block of the `3`, the offset behind it
 pub data Rest : List Token → List ℕ → ℕ → ℕ → Type 0 where

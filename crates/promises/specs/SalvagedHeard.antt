@@ -1,35 +1,63 @@
 -- "Meeting it, also midway in a spanned record, gives one gap and the next block's start, marked": what is heard of a file after a failure, into an output
 -- of any size; and after a write, then a failure.
 -- Assumes nothing.
-use Prim.Native.Nat.{ℕ}
+use Prim.Native.Nat.{ℕ, zero, suc}
 use mathlib.Core.Path.{_≡_, refl, ap, subst, _∙_}
-use mathlib.Core.Bool.{Bool, true, false}
+use mathlib.Core.Bool.{Bool, true, false, cond, _&&_}
 use mathlib.Core.List.{List, [], _∷_, _++_, map, List·Memᴰ, List·Memᴰ·tail, List·Memᴰ·head, List·Memᴰ·not-nil, List·Memᴰ·cases-cons, List·Memᴰ·append-cases, List·Memᴰ·eq-of-singleton, Memᴰ·cast, Memᴰ·map}
 use lib.ListN.{length, take}
-use lib.Dec.{ltb}
-use native.Mathlib.Omega.{arith}
+use lib.Dec.{ltb, eqb}
 use Rattle.standard.specs.Layout.{labelAt}
 use Rattle.standard.specs.Records.{salvage, Record, Item, rec, gap, end, no}
 use Rattle.standard.specs.Places.{start}
 use Rattle.standard.specs.Judgement.{judged}
-use Rattle.standard.specs.Damage.{remains}
+use Rattle.standard.specs.Damage.{remains, spared, endingIn}
 use Rattle.standard.specs.Files.{blockCount}
 use Rattle.standard.specs.Writing.{parted, writeRefusal, imageAfter}
 use Rattle.standard.specs.declared.Geometry.{Geometry}
 use Rattle.standard.specs.declared.Checked.the-variants.{Passed}
 use Rattle.standard.specs.declared.Judged.the-variants.{Volume}
-use Rattle.promises.specs.Basics.{either}
+use Rattle.promises.specs.Basics.{either, never}
 use Rattle.promises.specs.ReadingLaws.{bodyOf}
 use Rattle.promises.specs.Following.{Heard, told, hole, done, refused, following, tooLong, heardIn}
 use Rattle.promises.specs.FollowingLaws.{following-any}
 use Rattle.promises.specs.Failing.{Failed, OfBlocks, Spares, ReadsWhole, gone, expected, Salvaged}
-use Rattle.promises.specs.NeverJoined.{take-mem, remains-mem}
 use Rattle.promises.specs.Promises.{SalvageAnyPromise, salvage-any-promise, SalvagePromise, salvage-promise}
 use Rattle.promises.specs.WritingPromises.{accepted-still}
 use Rattle.promises.specs.WrittenHeard.{written-whole}
 
-never : {A : Type 0} → _≡_ {A = ℕ} 0 1 → A
-never z = absurd (omega (arith, z))
+-- what remains of a file has no record that was not one of its records
+take-mem : {A : Type 0} (n : ℕ) (xs : List A) {x : A} → List·Memᴰ x (take n xs) → List·Memᴰ x xs
+take-mem zero xs m = absurd (List·Memᴰ·not-nil m)
+take-mem (suc n) [] m = absurd (List·Memᴰ·not-nil m)
+take-mem (suc n) (y ∷ xs) {x} m =
+    either (List·Memᴰ·cases-cons m) (λ (e : x ≡ y). List·Memᴰ·head e) (λ (k : List·Memᴰ x (take n xs)). List·Memᴰ·tail (take-mem n xs k))
+
+-- a record among those that end in a block is one of the records
+ending-mem : (gone : ℕ → Bool) (b : ℕ) (rs : List Record) (r : Record) → List·Memᴰ (rec r) (endingIn gone b rs) → List·Memᴰ r rs
+unfolding endingIn
+ending-mem gone b [] r m = absurd (List·Memᴰ·not-nil m)
+ending-mem gone b (q ∷ rs) r m = go (eqb (q .lastBlock) b && spared gone q) m (λ k. ending-mem gone b rs r k)
+  where
+    go : (t : Bool) → List·Memᴰ (rec r) (cond t (rec q ∷ endingIn gone b rs) (endingIn gone b rs)) → (List·Memᴰ (rec r) (endingIn gone b rs) → List·Memᴰ r rs)
+        → List·Memᴰ r (q ∷ rs)
+    go true k ih =
+        either (List·Memᴰ·cases-cons k)
+        (λ (e : rec r ≡ rec q). let same : r ≡ q = cc in List·Memᴰ·head same)
+        (λ (l : List·Memᴰ (rec r) (endingIn gone b rs)). List·Memᴰ·tail (ih l))
+    go false k ih = List·Memᴰ·tail (ih k)
+
+remains-mem : (gone : ℕ → Bool) (b n : ℕ) (rs : List Record) (r : Record) → List·Memᴰ (rec r) (remains gone b n rs) → List·Memᴰ r rs
+unfolding remains
+remains-mem gone b zero rs r m = absurd (List·Memᴰ·not-nil m)
+remains-mem gone b (suc n) rs r m =
+    either (List·Memᴰ·append-cases (cond (gone b) (gap b ∷ []) (endingIn gone b rs)) m)
+    (λ (k : List·Memᴰ (rec r) (cond (gone b) (gap b ∷ []) (endingIn gone b rs))). go (gone b) k)
+    (λ (k : List·Memᴰ (rec r) (remains gone (suc b) n rs)). remains-mem gone (suc b) n rs r k)
+  where
+    go : (t : Bool) → List·Memᴰ (rec r) (cond t (gap b ∷ []) (endingIn gone b rs)) → List·Memᴰ r rs
+    go true k = let e = List·Memᴰ·eq-of-singleton k in never (cc)
+    go false k = ending-mem gone b rs r k
 
 -- what is heard as a record's bytes is a record of the list, whatever the room
 told-long : (room : ℕ) (body : List ℕ) (r : Record) (hs : List Heard) (t : Bool) {A : Type 0}
@@ -44,7 +72,7 @@ Told body is = (r : Record) × List·Memᴰ (rec r) is × (body ≡ r .body)
 told-tail : (body : List ℕ) (i : Item) (is : List Item) → Told body is → Told body (i ∷ is)
 told-tail body i is t = (t .0, List·Memᴰ·tail (t .1), t .2)
 
-pub heard-in-mem : (room : ℕ) (body : List ℕ) (is : List Item) → List·Memᴰ (told body) (heardIn room is) → (r : Record) × List·Memᴰ (rec r) is × (body ≡ r .body)
+heard-in-mem : (room : ℕ) (body : List ℕ) (is : List Item) → List·Memᴰ (told body) (heardIn room is) → (r : Record) × List·Memᴰ (rec r) is × (body ≡ r .body)
 unfolding heardIn
 heard-in-mem room body [] m = absurd (List·Memᴰ·not-nil m)
 heard-in-mem room body (rec q ∷ is) m =
