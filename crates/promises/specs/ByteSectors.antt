@@ -160,10 +160,3 @@ module _ (image : List ℕ) (g : Geometry) (slot : ℕ) (bodies lengths : List �
       (λ (m : Among g i (takenBy g image (labelAt g image slot) blocks)). inr (ofBlocks (m .0) (m .1) (m .2))))
       (λ (p : (labelOffset g slot + 74 ≤ i) × (i < labelOffset g slot + 74 + 5)). inr (ofDataEnd (p .0) (omega (arith, p .1)))))
       (λ (p : (labelOffset g slot + 57 ≤ i) × (i < labelOffset g slot + 57 + 5)). inr (ofUnused (p .0) (omega (arith, p .1))))
-
-  -- the same the other way about: a byte that differs is one of those
-  pub write-changed : (i : ℕ) → (getD (imageAfter image slot bodies lengths) i 0 ≡ getD image i 0 → ⊥) → MayChange g image slot blocks i
-  write-changed i ne =
-      either (write-changes i)
-      (λ (e : getD (imageAfter image slot bodies lengths) i 0 ≡ getD image i 0). absurd (ne e))
-      (λ (m : MayChange g image slot blocks i). m)

@@ -25,10 +25,10 @@ use Rattle.promises.specs.Lists.{Every}
 use Rattle.promises.specs.Tokens.{At, From, pieces-at, blocks-from}
 use Rattle.promises.specs.SalvageLaws.{clean-no, clean-rec, clean-end}
 use Rattle.promises.specs.Following.{following, heard, Fits}
-use Rattle.promises.specs.Failing.{Failed, OfBlocks, Spares, gone, ReadsWhole, Salvaged}
+use Rattle.promises.specs.Failing.{Failed, Spares, gone, ReadsWhole, Salvaged}
 use Rattle.promises.specs.FollowingLaws.{following-listed}
 use Rattle.promises.specs.SalvageImage.{file-count}
-use Rattle.promises.specs.Promises.{SalvagePromise, SalvageAnyPromise, salvage-promise, salvage-any-promise}
+use Rattle.promises.specs.Promises.{SalvageAnyPromise, salvage-any-promise}
 use Rattle.standard.specs.Labels.{Params}
 
 -- of n blocks, b is the first that is gone
@@ -145,11 +145,6 @@ unfolding listed damaged
 plain-cut gone f rs b h first =
     blocks-cut gone (f .params) b (first .taken) (first .kept) (f .blocks) 0 (omega arith) (omega (arith, first .inside)) fresh rs (sym (readAll-listed plain f) ∙ h)
 
--- The same of reading on from Start.
-pub plain-cut-read : (gone : ℕ → Bool) (f : File) (rs : List Record) (b : ℕ) → Clean (readAll plain f) rs → FirstGone gone (length (f .blocks)) b
-    → readAll plain (damaged gone f) ≡ map rec (endedBefore b rs) ++ (no (refuse20 b) ∷ [])
-plain-cut-read gone f rs b h first = readAll-listed plain (damaged gone f) ∙ plain-cut gone f rs b h first
-
 pub none-damaged : (gone : ℕ → Bool) (f : File) → NoneGone gone (length (f .blocks)) → damaged gone f ≡ f
 unfolding damaged
 none-damaged gone f h = rw (blocks-kept gone (f .blocks) 0 (λ b lo hi. h b (omega arith)))
@@ -229,20 +224,7 @@ PlainlyRead g hit image image′ slot rs =
     × ((b : ℕ) → FirstGone (gone g hit image (labelAt g image slot)) (blockCount g image (labelAt g image slot)) b → ReadUpTo g image′ slot b rs)
     × (NoneGone (gone g hit image (labelAt g image slot)) (blockCount g image (labelAt g image slot)) → ReadAsBefore g image′ slot rs)
 
--- PLAIN READING AFTER A FAILURE. A file is read whole, plainly; then sectors of its blocks fail.
-unfoldable pub PlainFailedPromise : Type 0
-PlainFailedPromise = (image image′ : List ℕ) (g : Geometry) (slot : ℕ) (bodies : List (List ℕ)) (hit : ℕ → Bool)
-    → judged image ≡ Volume g → ReadsWhole image slot bodies
-    → Failed g hit image image′ → OfBlocks g hit image (labelAt g image slot)
-    → (rs : List Record) × (map bodyOf rs ≡ bodies) × PlainlyRead g hit image image′ slot rs
-
-pub plain-failed-promise : PlainFailedPromise
-unfolding PlainFailedPromise SalvagePromise
-plain-failed-promise image image′ g slot bodies hit j w fail k =
-    let (rs, same, s) = salvage-promise image image′ g slot bodies hit j w fail k in
-    (rs, same, (s .before, plain-up-to image image′ g slot hit rs s, plain-as-before image image′ g slot hit rs s))
-
--- The same where any sectors behind the index cylinder fail, other files' too, but no record of this file's extent that is not good.
+-- A file is read whole, plainly; then any sectors behind the index cylinder fail, other files' too, but no record of this file's extent that is not good.
 unfoldable pub PlainFailedAnyPromise : Type 0
 PlainFailedAnyPromise = (image image′ : List ℕ) (g : Geometry) (slot : ℕ) (bodies : List (List ℕ)) (hit : ℕ → Bool)
     → judged image ≡ Volume g → ReadsWhole image slot bodies

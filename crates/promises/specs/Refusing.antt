@@ -10,7 +10,7 @@ use Rattle.standard.specs.Refusals.{refuse, inOrder}
 use Rattle.standard.specs.Judgement.{volumeOf, volumeList, volumeRefusal, verdict, judged, onVolume}
 use Rattle.standard.specs.Finding.{found, foundAt}
 use Rattle.standard.specs.Free.{freeCount}
-use Rattle.standard.specs.Files.{countList, countRefusal, countOr, counted, openList, openRefusal, fileIn}
+use Rattle.standard.specs.Files.{countList, countRefusal, countOr, counted, openRefusal, fileIn}
 use Rattle.standard.specs.Records.{Mode, File, Met, took, gapped, ended, refused, step, inFile}
 use Rattle.standard.specs.Reading.{Reply, unanswered, delivered, replied, replyIn, opened, reply, laidOver, readAnswer, outputAfter}
 use Rattle.standard.specs.Writing.{Outcome, packing, writeList, writeRefusal, unless, outcome, imageWith, written, imageAfter}
@@ -118,22 +118,6 @@ module _ (image : List ℕ) (g : Geometry) (j : judged image ≡ Volume g) where
     (λ h. order-first (countList g image slot) r (count-stopped (inOrder (countList g image slot)) _ r (rw j at h))),
     (λ f. rw j (rw (first-order (countList g image slot) r f))),
   )
-
-  -- reading: the list of 13 to 18, then 19, then what the reading meets
-  pub unopened : (m : Mode) (slot : ℕ) (pl : Place) (out : List ℕ) (r : Refusal) → First r (openList g image slot) → readAnswer m image slot pl out ≡ Unanswered r
-  unfolding reply openRefusal
-  unopened m slot pl out r f =
-      ap (λ (v : Judged). replyOn v m image slot pl (length out) .answer) j
-      ∙ ap (λ (c : Checked). opened c (replyIn m (fileIn g image (labelAt g image slot)) pl (length out)) .answer) (first-order (openList g image slot) r f)
-
-  pub not-in-file : (m : Mode) (slot : ℕ) (pl : Place) (out : List ℕ) → openRefusal g image slot ≡ Passed
-      → inFile (fileIn g image (labelAt g image slot)) pl ≡ false → readAnswer m image slot pl out ≡ Unanswered (refuse 19 0)
-  unfolding reply replyIn
-  not-in-file m slot pl out o i =
-      let f = fileIn g image (labelAt g image slot) in
-      ap (λ (v : Judged). replyOn v m image slot pl (length out) .answer) j
-      ∙ ap (λ (c : Checked). opened c (replyIn m f pl (length out)) .answer) o
-      ∙ ap (λ (t : Bool). cond t (replied f (length out) (step m f pl)) (unanswered (refuse 19 0)) .answer) i
 
   -- writing
   write-stopped : (c : Checked) (o : Outcome) (n : ℕ) (r : Refusal) → o .answer ≡ Blocks n → unless c image o .answer ≡ Unwritten r → c ≡ Stopped r

@@ -8,7 +8,7 @@ use lib.ListN.{length, getD, drop, length-drop, take-append-drop}
 use lib.Seq.{length-take-le}
 use native.Mathlib.Omega.{arith}
 use Rattle.standard.specs.Files.{goodRecords, recordsToBlock, blockCount, countRefusal, counted, openRefusal, fileIn, fileAt}
-use Rattle.standard.specs.Writing.{imageWith, total, parted, needed, packing, writeRefusal, unusedField, dataEndAfter, Outcome, outcome, written, imageAfter}
+use Rattle.standard.specs.Writing.{imageWith, total, parted, needed, packing, writeRefusal, unusedField, dataEndAfter, Outcome, written, imageAfter}
 use Rattle.standard.specs.Characters.{field}
 use Rattle.standard.specs.Layout.{kindOffset, slotCount, labelOffset, labelAt}
 use Rattle.standard.specs.Addresses.{ordinal, fiveBytes}
@@ -22,11 +22,10 @@ use Rattle.standard.specs.Packing.{fileOf}
 use Rattle.standard.specs.Reading.{reply}
 use Rattle.standard.specs.declared.Geometry.{Geometry}
 use Rattle.standard.specs.declared.Place.{Place}
-use Rattle.standard.specs.declared.Refusal.{Refusal}
-use Rattle.standard.specs.declared.Checked.the-variants.{Passed, Stopped}
+use Rattle.standard.specs.declared.Checked.the-variants.{Passed}
 use Rattle.standard.specs.declared.Counted.the-variants.{Count}
-use Rattle.standard.specs.declared.Judged.the-variants.{Refused, Volume}
-use Rattle.standard.specs.declared.Written.the-variants.{Unwritten, Blocks}
+use Rattle.standard.specs.declared.Judged.the-variants.{Volume}
+use Rattle.standard.specs.declared.Written.the-variants.{Blocks}
 use Rattle.promises.specs.Lists.{Every, every-both}
 use Rattle.promises.specs.Splices.{Outside}
 use Rattle.promises.specs.AddressLaws.{Legal}
@@ -74,18 +73,7 @@ open-counts g s slot h =
     let (r13, (r14, (r15, (r16, (r17, (r18, _)))))) = order-each _ h in
     order-all _ (r13, (r14, (r17, (r18, tt))))
 
--- ---- REFUSED: "A refusal returns number and place, and all lent bytes stay."
-pub refused-by-volume : (image : List ℕ) (r : Refusal) (slot : ℕ) (bodies lengths : List ℕ) → judged image ≡ Refused r
-    → outcome image slot bodies lengths ≡ record { answer = Unwritten r; image = image }
-unfolding outcome
-refused-by-volume image r slot bodies lengths j = rw j
-
-pub refused-by-file : (image : List ℕ) (g : Geometry) (r : Refusal) (slot : ℕ) (bodies lengths : List ℕ) → judged image ≡ Volume g
-    → writeRefusal g image slot bodies lengths ≡ Stopped r → outcome image slot bodies lengths ≡ record { answer = Unwritten r; image = image }
-unfolding outcome
-refused-by-file image g r slot bodies lengths j w = rw (j, w)
-
--- ---- ACCEPTED
+-- AN ACCEPTED WRITE. (A refused one: Refusing.)
 module _ (image : List ℕ) (g : Geometry) (slot : ℕ) (bodies lengths : List ℕ) (j : judged image ≡ Volume g)
     (w : writeRefusal g image slot bodies lengths ≡ Passed) where
   abbrev label : List ℕ
