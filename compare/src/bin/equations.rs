@@ -264,27 +264,25 @@ fn facts(number: usize, image: &[u8], call: &Call) -> Vec<String> {
             offset,
             mark,
             out,
-        } => {
-            let place = place(*block, *offset, *mark);
-            reading(
-                &format!("plain {image_name} {slot} {place} ({})", list(out)),
-                packed,
-                &found.out,
-            )
         }
-        Call::Salvage {
+        | Call::Salvage {
             slot,
             block,
             offset,
             mark,
             out,
         } => {
+            let mode = if matches!(call, Call::Read { .. }) {
+                "plain"
+            } else {
+                "salvage"
+            };
             let place = place(*block, *offset, *mark);
-            reading(
-                &format!("salvage {image_name} {slot} {place} ({})", list(out)),
-                packed,
-                &found.out,
-            )
+            let call = format!("{mode} {image_name} {slot} {place} ({})", list(out));
+            vec![
+                format!("packedAnswer (readAnswer {call}) ≡ {packed}"),
+                format!("outputAfter {call} ≡ ({})", list(&found.out)),
+            ]
         }
         Call::Write {
             slot,
@@ -305,13 +303,6 @@ fn facts(number: usize, image: &[u8], call: &Call) -> Vec<String> {
         }
         Call::Listing => vec![format!("listing {image_name} ≡ ({})", list(&found.out))],
     }
-}
-
-fn reading(call: &str, packed: u64, out: &[u8]) -> Vec<String> {
-    vec![
-        format!("packedAnswer (readAnswer {call}) ≡ {packed}"),
-        format!("outputAfter {call} ≡ ({})", list(out)),
-    ]
 }
 
 /// "a mark is set if it is not 0"

@@ -13,6 +13,7 @@ use Rattle.standard.specs.Judgement.{judged}
 use Rattle.standard.specs.Files.{openRefusal, fileIn}
 use Rattle.standard.specs.Pieces.{Block, lostBlock, held, Token, inBlock, fromTail, ahead}
 use Rattle.standard.specs.Records.{Mode, File, State, Item, entering, readOn, join, inFile}
+use Rattle.standard.specs.Labels.{Params}
 use Rattle.standard.specs.declared.Geometry.{Geometry}
 use Rattle.standard.specs.declared.Place.{Place}
 use Rattle.standard.specs.declared.Checked.the-variants.{Passed}
@@ -23,7 +24,6 @@ use Rattle.promises.specs.ReadingLaws.{one-more, onward}
 use Rattle.promises.specs.ListedLaws.{Closed, fewer, more, length-read, join-closed}
 use Rattle.promises.specs.Following.{following, heardIn}
 use Rattle.promises.specs.FollowingLaws.{following-is}
-use Rattle.standard.specs.Labels.{Params}
 
 -- what stands ahead of any place is chained
 tail-chained : (p : Params) (bs : List Block) (b o : ℕ) (xs : List Block) → drop b bs ≡ xs → Chained p bs (fromTail p b o xs)

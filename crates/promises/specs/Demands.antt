@@ -20,6 +20,9 @@ use Rattle.standard.specs.Records.{Mode, salvage, Record, listed, inFile, File}
 use Rattle.standard.specs.Places.{start, endPlace}
 use Rattle.standard.specs.Reading.{Reply, laidOver, readAnswer, outputAfter}
 use Rattle.standard.specs.Writing.{parted, needed, writeList, writeRefusal, written, imageAfter, packing, unusedField, dataEndAfter}
+use Rattle.standard.specs.Characters.{field}
+use Rattle.standard.specs.Labels.{knownLevel, nameOf, startOf, endOf}
+use Rattle.standard.specs.Pieces.{ahead}
 use Rattle.standard.specs.declared.Geometry.{Geometry}
 use Rattle.standard.specs.declared.Address.{Address}
 use Rattle.standard.specs.declared.Place.{Place}
@@ -30,6 +33,8 @@ use Rattle.standard.specs.declared.Counted.the-variants.{Uncounted, Count}
 use Rattle.standard.specs.declared.Found.the-variants.{Unfound, At}
 use Rattle.standard.specs.declared.Judged.the-variants.{Refused, Volume}
 use Rattle.standard.specs.declared.Written.the-variants.{Unwritten, Blocks}
+use Rattle.standard.specs.declared.Written.{Written}
+use Rattle.standard.specs.declared.Answer.{Answer}
 use Rattle.promises.specs.Refusing.{Exactly, First, accepted-write, volume-first, volume-stops, count-first, write-first, refusal-lays-nothing, gap-lays-nothing, end-lays-nothing, refusal-writes-nothing}
 use Rattle.promises.specs.VolumePromises.{RecordInRange, extent-in-range, no-record-shared}
 use Rattle.promises.specs.Sectors.{AgreeOn, sectorOf}
@@ -42,12 +47,8 @@ use Rattle.promises.specs.WritingPromises.{joined, answers, length-stays
 use Rattle.promises.specs.WrittenHeard.{RoomFor, written-heard-all}
 use Rattle.promises.specs.ByteSectors.{MayChange, write-changes}
 use Rattle.promises.specs.Determined.{Determinate, by-function, one-result-and-bytes}
-use Rattle.standard.specs.Characters.{field}
-use Rattle.standard.specs.declared.Written.{Written}
-use Rattle.standard.specs.declared.Answer.{Answer}
 use Rattle.promises.specs.FindingLaws.{find-named, find-none, label-handed-out}
 use Rattle.promises.specs.FreeLaws.{extentsBelow, free-counted, free-is}
-use Rattle.standard.specs.Labels.{knownLevel, nameOf, startOf, endOf}
 use Rattle.promises.specs.ReadingRefused.{readList, read-first, record-laid, record-next, gap-next, end-next, LostIn}
 use Rattle.promises.specs.AnyPlace.{listedFrom, following-from}
 use Rattle.promises.specs.FollowingLaws.{following-any}
@@ -59,7 +60,6 @@ use Rattle.promises.specs.WrittenLabel.{records-some}
 use Rattle.promises.specs.SalvagedHeard.{SalvageHeardPromise, salvage-heard-promise, NeverJoinedAnyPromise, never-joined-any-promise}
 use Rattle.promises.specs.SalvageImage.{only-blocks}
 use Rattle.promises.specs.Runs.{AfterDropped, record-stands}
-use Rattle.standard.specs.Pieces.{ahead}
 
 -- ======== DEMAND 1
 -- "Every image, name, place and length is taken, untested by the caller." Each definition below is a function of any lists of bytes and any numbers, so

@@ -12,20 +12,20 @@ use borrow.Author.Tests.{le-ltb, ltb-false}
 use Rattle.standard.specs.Pieces.{Token, part, bad, lost}
 use Rattle.standard.specs.Records.{Mode, plain, salvage, File, Met, took, gapped, ended, refused as refusedBy, State, fresh, marked, within, Move, deliver, carry, breach, meet, step, Item, rec, gap, end, no, follow, readOn, listed, atLost, afterMove, answer, inFile}
 use Rattle.standard.specs.Places.{start}
-use Rattle.standard.specs.declared.Place.{Place}
 use Rattle.standard.specs.Layout.{labelAt}
 use Rattle.standard.specs.Judgement.{judged}
 use Rattle.standard.specs.Files.{openRefusal, fileIn}
+use Rattle.standard.specs.Refusals.{refuse}
+use Rattle.standard.specs.Reading.{Reply, unanswered, replied, replyIn, reply, laidOver}
+use Rattle.standard.specs.Labels.{Params}
+use Rattle.standard.specs.declared.Place.{Place}
 use Rattle.standard.specs.declared.Geometry.{Geometry}
 use Rattle.standard.specs.declared.Checked.the-variants.{Passed}
 use Rattle.standard.specs.declared.Judged.the-variants.{Volume}
-use Rattle.standard.specs.Refusals.{refuse}
-use Rattle.standard.specs.Reading.{Reply, unanswered, replied, replyIn, reply, laidOver}
 use Rattle.standard.specs.declared.Answer.the-variants.{Record as RecordOf}
 use Rattle.promises.specs.PlaceLaws.{Landed, start-in-file, step-lands}
 use Rattle.promises.specs.ListedLaws.{readOn-listed}
 use Rattle.promises.specs.Following.{Heard, told, onward, following, heard, Fits, tooLong, heardIn}
-use Rattle.standard.specs.Labels.{Params}
 
 -- the place behind a gap is in the block behind the lost one
 abbrev Nexts : Met → Type 0

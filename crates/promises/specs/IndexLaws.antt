@@ -9,14 +9,14 @@ use lib.ListN.{length}
 use lib.Dec.{leb}
 use native.Mathlib.Omega.{arith}
 use borrow.Author.Tests.{lt-ltb, leb-true}
-use Rattle.standard.specs.declared.Judged.the-variants.{Volume}
 use Rattle.standard.specs.Judgement.{judged, numbersIn, volumeOf, legalKind, shares, namesake, overlap, sameName}
 use Rattle.standard.specs.Characters.{between, field}
 use Rattle.standard.specs.Layout.{indexSectors, sectorCount, indexKind, ermapOf, vol1Of, slotCount, slotOrdinal, labelAt, indexBody}
 use Rattle.standard.specs.Slots.{isLabel, isDeleted, isUnreadable, slotRefusal, hasLabel}
+use Rattle.standard.specs.Labels.{knownLevel}
+use Rattle.standard.specs.declared.Judged.the-variants.{Volume}
 use Rattle.standard.specs.declared.Geometry.{Geometry}
 use Rattle.standard.specs.declared.Checked.the-variants.{Passed}
-use Rattle.standard.specs.Labels.{knownLevel}
 use Rattle.promises.specs.Basics.{and-r}
 use Rattle.promises.specs.Sectors.{sectorAt, AgreeOn, inIndex}
 use Rattle.promises.specs.SectorLaws.{same-kind, same-body, same-first, same-valid, same-incorrect, same-failed, index-kind, index-body, slot-body}

@@ -22,10 +22,11 @@ use Rattle.standard.specs.Records.{answer, step, inFile, readOn, enough, readAl
 use Rattle.standard.specs.Places.{start}
 use Rattle.standard.specs.Pieces.{look, walk, pieces, inBlock, inBlocks, ahead, number4, roleOf, lookF, lookV, lookS}
 use Rattle.standard.specs.Reading.{replyIn, reply, laidOver}
-use Rattle.standard.specs.declared.Geometry.{Geometry}
-use Rattle.standard.specs.declared.Judged.the-variants.{Volume}
 use Rattle.standard.specs.Packing.{recordV, segment, lay, layOne, spread, layS, pack, fileOf}
 use Rattle.standard.specs.Writing.{written, imageAfter, total, parted, wrongLength, lengthsFrom, packing, writeRefusal, splice, filledTo, storeRecord, storeBlock, storeBlocks, nextDataEnd, dataEndAfter, setLabel, imageWith, outcome}
+use Rattle.standard.specs.Rules.{lowestFault}
+use Rattle.standard.specs.declared.Geometry.{Geometry}
+use Rattle.standard.specs.declared.Judged.the-variants.{Volume}
 use Rattle.standard.specs.declared.Checked.the-variants.{Passed}
 use Rattle.standard.specs.declared.Written.the-variants.{Blocks}
 use Rattle.promises.specs.Sectors.{sectorOf}
@@ -38,7 +39,6 @@ use Rattle.promises.specs.WritingPromises.{reads}
 use Rattle.promises.specs.PlainFailed.{FirstGone, ReadUpTo, plain-up-to}
 use Rattle.promises.specs.WrittenHeard.{written-heard}
 use Rattle.promises.specs.NeededLaws.{neededFrom, spreadTo}
-use Rattle.standard.specs.Rules.{lowestFault}
 
 -- a sector of 128 bytes with a valid mark: some bytes, and spaces behind them
 abbrev sector : List ℕ → List ℕ

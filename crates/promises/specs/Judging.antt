@@ -14,6 +14,7 @@ use Rattle.standard.specs.Labels.{labelFault}
 use Rattle.standard.specs.Characters.{at}
 use Rattle.standard.specs.Slots.{isLabel, slotRefusal, slotsFrom, isUnreadable}
 use Rattle.standard.specs.Judgement.{volumeOf, refusal1, refusal2, refusal3, refusal4, refusal5, refusal6, refusal7, refusal8to10, clashesBelow, clashesFrom, refusal11, refusal12, volumeRefusal, verdict, judged, legalKind, kindsFrom}
+use Rattle.standard.specs.Rules.{Row, lowestFault}
 use Rattle.standard.specs.declared.Geometry.{Geometry}
 use Rattle.standard.specs.declared.Refusal.{Refusal}
 use Rattle.standard.specs.declared.Checked.{Checked}
@@ -22,7 +23,6 @@ use Rattle.standard.specs.declared.Judged.the-variants.{Volume}
 use Rattle.promises.specs.Basics.{either, and-l, and-r, or-l, or-r}
 use Rattle.promises.specs.Lists.{Every}
 use Rattle.promises.specs.SectorLaws.{valid-correct, valid-sound}
-use Rattle.standard.specs.Rules.{Row, lowestFault}
 
 -- rules in order
 stopped-never : (r : Refusal) → Stopped r ≡ Passed → ⊥

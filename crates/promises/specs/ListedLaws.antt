@@ -10,10 +10,10 @@ use native.Mathlib.Nat.{not-suc-le-zero, le-of-suc-le-suc}
 use Rattle.standard.specs.Pieces.{Token, part, bad, lost, inBlocks}
 use Rattle.standard.specs.Records.{Mode, plain, salvage, File, Met, took, gapped, ended, refused as refusedBy, State, fresh, marked, within, Move, deliver, carry, breach, meet, step, Item, rec, gap, end, no, follow, readOn, enough, readAll, joinMove, joinEnd, joinLost, join, listed, stateAfterGap}
 use Rattle.standard.specs.Places.{start}
+use Rattle.standard.specs.Labels.{Params}
 use Rattle.standard.specs.declared.Place.{Place}
 use Rattle.promises.specs.Basics.{either, lt-or-le}
 use Rattle.promises.specs.ReadingLaws.{readAll-listed}
-use Rattle.standard.specs.Labels.{Params}
 
 -- fewer readings give the beginning of what more give
 module _ (m : Mode) (f : File) where

@@ -12,11 +12,11 @@ use Rattle.standard.specs.Judgement.{judged}
 use Rattle.standard.specs.Records.{Mode}
 use Rattle.standard.specs.Files.{extent, goodRecords, blockCount, countRefusal, counted, openRefusal, fileIn, refusal17, refusal18}
 use Rattle.standard.specs.Reading.{reply}
+use Rattle.standard.specs.Writing.{writeRefusal}
 use Rattle.standard.specs.declared.Geometry.{Geometry}
 use Rattle.standard.specs.declared.Place.{Place}
 use Rattle.standard.specs.declared.Checked.the-variants.{Stopped}
 use Rattle.standard.specs.declared.Judged.the-variants.{Volume}
-use Rattle.standard.specs.Writing.{writeRefusal}
 use Rattle.promises.specs.Basics.{by-test}
 use Rattle.promises.specs.Lists.{Every}
 use Rattle.promises.specs.Tiling.{lengths}

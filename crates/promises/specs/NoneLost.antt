@@ -6,10 +6,10 @@ use mathlib.Core.List.{List, [], _∷_, map}
 use Rattle.standard.specs.Pieces.{held, Token, part, bad, lost, pieces, inBlock, inBlocks}
 use Rattle.standard.specs.Records.{plain, salvage, State, fresh, Move, deliver, carry, breach, meet, Item, rec, readAll, joinMove, join, listed}
 use Rattle.standard.specs.Packing.{fileOf}
+use Rattle.standard.specs.Labels.{Params}
 use Rattle.promises.specs.Lists.{Every, every-append, every-map}
 use Rattle.promises.specs.Tokens.{At, pieces-at}
 use Rattle.promises.specs.ReadingLaws.{readAll-listed}
-use Rattle.standard.specs.Labels.{Params}
 
 abbrev NotLost : Token → Type 0
 NotLost (part k body b o n) = Unit {0}

@@ -13,8 +13,8 @@ use native.Mathlib.Numerals.{add-one}
 use native.Mathlib.Nat.{not-suc-le-zero, le-refl}
 use borrow.Author.Tests.{leb-true}
 use Rattle.standard.specs.Pieces.{Block, lostBlock, held, Role, whole, first, middle, last, Piece, blank, broken, piece, lookV, lookS, lookF, isFill, mustFill, four, roleOf, sizedV, sizedS, onlyFillV, onlyFillS, lookIn, look, Token, part, bad, lost, afterPart, tokensAt, walk, pieces, inBlock, inBlocks, fromTail, ahead}
-use Rattle.promises.specs.Basics.{cond-elim, and-l, and-r}
 use Rattle.standard.specs.Labels.{Format, fixed, variable, spanned, Params}
+use Rattle.promises.specs.Basics.{cond-elim, and-l, and-r}
 
 -- a piece takes a byte or more, and no more than there are
 abbrev pub Sound : ℕ → Piece → Type 0

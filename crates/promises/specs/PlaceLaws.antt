@@ -13,12 +13,12 @@ use borrow.Author.Tests.{lt-ltb, le-leb, eq-eqb, ltb-false, leb-true, ltb-true}
 use Rattle.standard.specs.Records.{Mode, plain, salvage, File, Met, took, gapped, ended, refused, State, fresh, marked, within, Move, deliver, carry, breach, meet, atLost, afterMove, answer, entering, step, aligned, inFile}
 use Rattle.standard.specs.Places.{start}
 use Rattle.standard.specs.Pieces.{Block, lostBlock, held, sizeOf, Role, Piece, blank, broken, piece, lookF, lookIn, look, Token, part, bad, lost, tokensAt, pieces, inBlock, inBlocks, fromTail, ahead}
+use Rattle.standard.specs.Labels.{Format, fixed, variable, spanned, Params}
 use Rattle.standard.specs.declared.Place.{Place}
 use Rattle.promises.specs.Basics.{cond-elim, and-l, and-r}
 use Rattle.promises.specs.Lists.{Every, every-append}
 use Rattle.promises.specs.PiecesLaws.{Sound, look-sound, pieces-eq, drop-tail}
 use Rattle.promises.specs.Tokens.{afterPart-every}
-use Rattle.standard.specs.Labels.{Format, fixed, variable, spanned, Params}
 
 abbrev at : ℕ → ℕ → Bool → Place
 at b o g = record { block = b; offset = o; mark = g }

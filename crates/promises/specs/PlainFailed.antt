@@ -17,6 +17,7 @@ use Rattle.standard.specs.Places.{start}
 use Rattle.standard.specs.Judgement.{judged}
 use Rattle.standard.specs.Files.{blockCount, fileIn}
 use Rattle.standard.specs.Damage.{damage, damaged}
+use Rattle.standard.specs.Labels.{Params}
 use Rattle.standard.specs.declared.Geometry.{Geometry}
 use Rattle.standard.specs.declared.Judged.the-variants.{Volume}
 use Rattle.promises.specs.Basics.{either, lt-or-le}
@@ -29,7 +30,6 @@ use Rattle.promises.specs.Failing.{Failed, Spares, gone, ReadsWhole, Sal
 use Rattle.promises.specs.FollowingLaws.{following-listed}
 use Rattle.promises.specs.SalvageImage.{file-count}
 use Rattle.promises.specs.Promises.{SalvageAnyPromise, salvage-any-promise}
-use Rattle.standard.specs.Labels.{Params}
 
 -- of n blocks, b is the first that is gone
 pub record FirstGone (gone : ℕ → Bool) (n b : ℕ) : Type 0 where

@@ -14,15 +14,15 @@ use Rattle.standard.specs.Slots.{hasLabel}
 use Rattle.standard.specs.Judgement.{judged}
 use Rattle.standard.specs.Files.{extent, wrongAmong, blocksHeld, extentSize, isDefective, goodAmong, goodRecords, recordsToBlock, goodBefore, dataEndAtStart, dataEndInExtent, blockCount, isWrong, splitsBlock, openRefusal, blocksFrom, fileIn}
 use Rattle.standard.specs.Writing.{wrongLength, lengthsFrom, packing, writeRefusal, needed, imageWith}
-use Rattle.standard.specs.declared.Geometry.{Geometry}
-use Rattle.standard.specs.declared.Checked.the-variants.{Passed}
-use Rattle.standard.specs.declared.Judged.the-variants.{Volume}
 use Rattle.standard.specs.Refusals.{given-when}
 use Rattle.standard.specs.Characters.{at, isSpace, number}
 use Rattle.standard.specs.Addresses.{legal, rank}
 use Rattle.standard.specs.Labels.{knownLevel, blockLength, unusedCount, startOf, endOf, paramsOf}
 use Rattle.standard.specs.Pieces.{held}
 use Rattle.standard.specs.Packing.{fileOf}
+use Rattle.standard.specs.declared.Geometry.{Geometry}
+use Rattle.standard.specs.declared.Checked.the-variants.{Passed}
+use Rattle.standard.specs.declared.Judged.the-variants.{Volume}
 use Rattle.standard.specs.declared.Address.{Address}
 use Rattle.promises.specs.Lists.{Every, every-map, every-both}
 use Rattle.promises.specs.AddressLaws.{Legal}

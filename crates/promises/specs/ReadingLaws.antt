@@ -10,10 +10,10 @@ use native.Mathlib.Nat.{not-suc-le-zero, le-of-suc-le-suc}
 use Rattle.standard.specs.Records.{end, Record, Mode, plain, salvage, File, State, fresh, marked, within, Move, deliver, carry, breach, over, meet, atLost, afterMove, answer, entering, step, Item, rec, gap, follow, readOn, enough, readAll, stateAfterGap, joinMove, joinLost, join, listed}
 use Rattle.standard.specs.Places.{start}
 use Rattle.standard.specs.Pieces.{Block, lostBlock, held, Role, whole, first, middle, last, Token, part, bad, lost, walk, pieces, inBlock, inBlocks, ahead}
+use Rattle.standard.specs.Labels.{Format, fixed, variable, spanned, Params}
 use Rattle.standard.specs.declared.Place.{Place}
 use Rattle.promises.specs.Basics.{cond-elim}
 use Rattle.promises.specs.PiecesLaws.{walk-length, fromTail-start, Ends, Chained, blocks-chained}
-use Rattle.standard.specs.Labels.{Format, fixed, variable, spanned, Params}
 
 -- only a whole or a last piece delivers
 abbrev Delivers : Role → Move → Type 0

@@ -10,13 +10,13 @@ use native.Mathlib.Nat.{le-refl}
 use borrow.Author.Tests.{ne-eqb, eq-eqb}
 use Rattle.standard.specs.Pieces.{Block, lostBlock, held, Role, whole, first, middle, last, Token, part, bad, lost, pieces, inBlock, inBlocks}
 use Rattle.standard.specs.Records.{plain, salvage, File, Record, State, fresh, marked, within, Move, deliver, carry, breach, over, meet, Item, rec, gap, end, no, refuse20, refuse21, readAll, stateAfterGap, joinMove, joinEnd, join, listed}
-use Rattle.standard.specs.declared.Refusal.{Refusal}
 use Rattle.standard.specs.Damage.{damage, damaged, intact, spared, endingIn, remains}
+use Rattle.standard.specs.Labels.{Format, fixed, variable, spanned, Params}
+use Rattle.standard.specs.declared.Refusal.{Refusal}
 use Rattle.promises.specs.Basics.{cond-elim}
 use Rattle.promises.specs.Lists.{Every}
 use Rattle.promises.specs.Tokens.{At, pieces-at, From, blocks-from, Whole, blocks-whole}
 use Rattle.promises.specs.ReadingLaws.{readAll-listed, Clean}
-use Rattle.standard.specs.Labels.{Format, fixed, variable, spanned, Params}
 
 unfoldable pub SalvageTheorem : Type 0
 SalvageTheorem = (gone : ℕ → Bool) (f : File) (rs : List Record)

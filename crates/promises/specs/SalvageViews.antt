@@ -13,12 +13,12 @@ use borrow.Author.Tests.{eqb-false, eqb-true}
 use Rattle.standard.specs.Pieces.{Block, lostBlock, held, Token, part, bad, lost, pieces, inBlock, inBlocks}
 use Rattle.standard.specs.Records.{plain, salvage, File, Record, State, fresh, marked, within, Move, deliver, carry, breach, meet, Item, rec, gap, end, no, refuse20, refuse21, readAll, joinMove, join, listed}
 use Rattle.standard.specs.Damage.{damaged, intact, spared, endingIn, remains, recordsIn, gapsIn, sparedOf, goneOf}
+use Rattle.standard.specs.Labels.{Params}
 use Rattle.promises.specs.Basics.{cond-elim}
 use Rattle.promises.specs.Lists.{Every}
 use Rattle.promises.specs.Tokens.{At, pieces-at}
 use Rattle.promises.specs.ReadingLaws.{readAll-listed, Clean}
 use Rattle.promises.specs.SalvageLaws.{SalvageTheorem, clean-no, clean-rec, clean-end, endingIn-skip, remains-skip, Begun, BegunBy, meet-begun, salvage-theorem}
-use Rattle.standard.specs.Labels.{Params}
 
 recordsIn-append : (is js : List Item) → recordsIn (is ++ js) ≡ recordsIn is ++ recordsIn js
 unfolding recordsIn

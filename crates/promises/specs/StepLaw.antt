@@ -8,8 +8,8 @@ use lib.ListN.{drop}
 use lib.Seq.{drop-drop}
 use Rattle.standard.specs.Pieces.{Block, lostBlock, held, Role, whole, first, middle, last, Piece, blank, broken, piece, isFill, look, Token, bad, tokensAt, pieces, inBlock, inBlocks, ahead}
 use Rattle.standard.specs.Records.{Mode, Met, refused, refuse21, State, Move, deliver, carry, breach, meet, atEnd, atLost, afterMove, answer}
-use Rattle.promises.specs.PiecesLaws.{pieces-eq, held-ahead, next-ahead}
 use Rattle.standard.specs.Labels.{Params}
+use Rattle.promises.specs.PiecesLaws.{pieces-eq, held-ahead, next-ahead}
 
 -- the answer to a reader that stands at block b, offset o in a state
 abbrev pub reading : Mode → Params → List Block → ℕ → ℕ → State → Met

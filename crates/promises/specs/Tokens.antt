@@ -9,9 +9,9 @@ use lib.ListN.{length, drop}
 use lib.Dec.{leb}
 use native.Mathlib.Omega.{arith}
 use Rattle.standard.specs.Pieces.{Block, lostBlock, held, Role, whole, first, middle, last, Piece, blank, broken, piece, isFill, four, sizedV, lookF, onlyFillV, lookV, lookIn, look, Token, part, bad, lost, afterPart, tokensAt, walk, pieces, inBlock, inBlocks}
+use Rattle.standard.specs.Labels.{Format, fixed, variable, spanned, Params}
 use Rattle.promises.specs.Basics.{cond-elim}
 use Rattle.promises.specs.Lists.{Every, every-append}
-use Rattle.standard.specs.Labels.{Format, fixed, variable, spanned, Params}
 
 abbrev pub OnPiece : (Token → Type 0) → ℕ → ℕ → Piece → Type 0
 OnPiece Q b o blank = Unit {0}

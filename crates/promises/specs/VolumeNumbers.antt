@@ -12,13 +12,13 @@ use Rattle.standard.specs.Layout.{sectorCount, indexSectors, imageLength, slotC
 use Rattle.standard.specs.Characters.{bytes, oneOf, at, isSpace, field, hexDigits, hex, spaces, digitValue}
 use Rattle.standard.specs.Volume.{hexBetween, vol1Rules, volumeK}
 use Rattle.standard.specs.Judgement.{numbersIn, volumeOf, judged}
+use Rattle.standard.specs.Defects.{ermapRule11, ermapRules, defect1, defect2, isCylinder, cylinderIn}
+use Rattle.standard.specs.Rules.{lowestFault}
 use Rattle.standard.specs.declared.Geometry.{Geometry}
 use Rattle.standard.specs.declared.Judged.the-variants.{Volume}
 use Rattle.promises.specs.Basics.{true-not-false, and-l, and-r}
 use Rattle.promises.specs.Tiling.{size-index, sector-in-image}
 use Rattle.promises.specs.Judging.{not-given, rows-each, accepted}
-use Rattle.standard.specs.Defects.{ermapRule11, ermapRules, defect1, defect2, isCylinder, cylinderIn}
-use Rattle.standard.specs.Rules.{lowestFault}
 
 pub record Numbers (g : Geometry) : Type 0 where
   pub cylinders : g .L ≤ 96

@@ -13,6 +13,7 @@ use Rattle.standard.specs.Slots.{hasLabel}
 use Rattle.standard.specs.Free.{inExtent}
 use Rattle.standard.specs.Files.{extent, fileIn, fileAt}
 use Rattle.standard.specs.Judgement.{judged}
+use Rattle.standard.specs.Defects.{physical}
 use Rattle.standard.specs.declared.Geometry.{Geometry}
 use Rattle.standard.specs.declared.Address.{Address}
 use Rattle.standard.specs.declared.Judged.the-variants.{Volume}
@@ -23,7 +24,6 @@ use Rattle.promises.specs.Judging.{accepted}
 use Rattle.promises.specs.AcceptedLaws.{image-length, InRange, label-in-range, bounds-extent, labels-apart}
 use Rattle.promises.specs.ExtentAddresses.{Between, rising-every, extent-rising}
 use Rattle.promises.specs.VolumeNumbers.{defects-in-order}
-use Rattle.standard.specs.Defects.{physical}
 
 -- the addresses of an extent are legal, and their numbers are those from its start to its end
 pub in-extent : (g : Geometry) (h : List ℕ) (b : Address) → InRange g h → List·Memᴰ b (extent g h) → (legal g b ≡ true) × (inExtent g h (rank g b) ≡ true)

@@ -15,11 +15,11 @@ use Rattle.standard.specs.Pieces.{held, Role, whole, first, middle, last, blank
 use Rattle.standard.specs.Records.{plain, State, fresh, within, over, meet, Item, readAll, joinMove, join, listed}
 use Rattle.standard.specs.Packing.{Laid, then, thenNext, fill, roleByte, recordV, segment, lay, layOne, segmentRole, spread, least, layS, pack, fileOf}
 use Rattle.standard.specs.Characters.{digitValue, padded}
+use Rattle.standard.specs.Labels.{fixed, variable, spanned, Params}
 use Rattle.promises.specs.Lists.{Every}
 use Rattle.promises.specs.PiecesLaws.{look-nil, pieces-eq}
 use Rattle.promises.specs.ReadingLaws.{readAll-listed, Reads, reads-cons}
 use Rattle.promises.specs.Digits.{digit-is}
-use Rattle.standard.specs.Labels.{fixed, variable, spanned, Params}
 
 -- ---- four digits, there and back
 

@@ -1,11 +1,11 @@
 -- The edges of the rules, each computed: what a sentence of document 01 decides where two readings of it would differ.
 -- Assumes nothing.
 use Prim.Native.Nat.{ℕ}
+use Prim.Native.String.{String}
 use mathlib.Core.Path.{_≡_, refl}
 use mathlib.Core.Bool.{Bool, true, false}
 use mathlib.Core.List.{List, [], _∷_, _++_, map}
 use lib.ListN.{replicate}
-use Prim.Native.String.{String}
 use Rattle.standard.specs.Characters.{bytes, byte, oneOf, same, every, aSet, isDigit, digitValue, numberFrom, spacesOrNumber, padded, shownBy, shown}
 use Rattle.standard.specs.Addresses.{fiveDigits, addressIn, legal, rank, before, pastLast, isAddress, isDataEnd, fiveBytes}
 use Rattle.standard.specs.Labels.{knownLevel, anotherLevel, recordLength, unusedCount, rule44, rule6, rule29, rule35, rule40, rule23, rule63, rule41, rule42, rule43, rule45, rule46, spacesOrDate, rule48, rule67, rule54, rule58, rule64, rule73, rule75, hdr1Rules, labelFault, fixed, variable, spanned}
@@ -14,9 +14,9 @@ use Rattle.standard.specs.Pieces.{Block, lostBlock, held, number4, roleO
 use Rattle.standard.specs.Records.{plain, salvage, File, Record, took, ended, refused, refuse20, refuse21, refuse22, answer, step, rec, gap, end, no, enough, readOn, readAll}
 use Rattle.standard.specs.Packing.{Packing, segment, spread, layS, pack}
 use Rattle.standard.specs.Writing.{unusedField}
+use Rattle.standard.specs.Rules.{lowestFault}
 use Rattle.standard.specs.declared.Geometry.{Geometry}
 use Rattle.standard.specs.declared.Place.{Place}
-use Rattle.standard.specs.Rules.{lowestFault}
 
 -- files of V with R = 8, of S with some R, of F with some R; a block of a text and so many bytes of fill behind it
 abbrev ofV : Bool → List Block → File

@@ -15,9 +15,9 @@ use Rattle.standard.specs.Files.{addressesFrom}
 use Rattle.standard.specs.Packing.{Packing, recordV, segment, lay, layOne, spread, layS, pack, fileOf}
 use Rattle.standard.specs.Writing.{nextDataEnd}
 use Rattle.standard.specs.Damage.{damage, damaged}
+use Rattle.standard.specs.Labels.{variable, spanned, Params}
 use Rattle.standard.specs.declared.Geometry.{Geometry}
 use Rattle.standard.specs.declared.Address.{Address}
-use Rattle.standard.specs.Labels.{variable, spanned, Params}
 
 -- a volume with L, D, S and defects d1, d2
 abbrev volume : ℕ → ℕ → ℕ → ℕ → ℕ → Geometry

@@ -6,9 +6,9 @@ use mathlib.Core.List.{List, [], _∷_}
 use lib.Dec.{leb, ltb, eqb}
 use Rattle.standard.specs.Characters.{bytes, byte, between, oneOf, same, field, at, aSet, inASet, isSpace, spaces, digits, number, spacesOrNumber}
 use Rattle.standard.specs.Addresses.{addressIn, before, isAddress, isDataEnd}
+use Rattle.standard.specs.Rules.{Row, row, lowestFault}
 use Rattle.standard.specs.declared.Geometry.{Geometry}
 use Rattle.standard.specs.declared.Address.{Address}
-use Rattle.standard.specs.Rules.{Row, row, lowestFault}
 
 -- What the fields say.
 

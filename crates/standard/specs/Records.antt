@@ -8,9 +8,9 @@ use lib.Dec.{leb, ltb, eqb}
 use Rattle.standard.specs.Pieces.{Block, lostBlock, held, sizeOf, Role, whole, first, middle, last, Token, part, bad, lost, inBlocks, ahead}
 use Rattle.standard.specs.Refusals.{refuse, refuseAt}
 use Rattle.standard.specs.Places.{start}
+use Rattle.standard.specs.Labels.{Format, fixed, variable, spanned, Params}
 use Rattle.standard.specs.declared.Refusal.{Refusal}
 use Rattle.standard.specs.declared.Place.{Place}
-use Rattle.standard.specs.Labels.{Format, fixed, variable, spanned, Params}
 
 -- plain reading, and salvage
 pub data Mode : Type 0 where
