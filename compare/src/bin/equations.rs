@@ -5,7 +5,9 @@
 //! The names to import and to unfold are read off the definitions themselves,
 //! so that this file knows only the names that it cites.
 
+use compare::cover::Cover;
 use compare::make::{cases, counted, Case};
+use compare::packed::{code, GAP};
 use compare::{answer, listing, Call};
 use std::collections::BTreeMap;
 use std::fmt::Write as _;
@@ -19,9 +21,10 @@ equations DEFINITIONS OUT [--seed N] [--count N] [--largest BYTES] [--crates N]
 equations DEFINITIONS OUT --image FILE
 
 Writes the crates equations_1, equations_2 .. below the folder OUT, equations
-about each case: DEFINITIONS is the folder specs/ of the crate standard. Half of
-the cases are drawn from the seed, with images of at most so many bytes; half
-are taken evenly from those counted out.
+about each case: DEFINITIONS is the folder specs/ of the crate standard. First
+come cases that reach every refusal, position, answer and shape between them,
+then salvages that give gaps and go on behind them; half of the rest are drawn from the seed, with images of at most so many bytes,
+half are taken evenly from those counted out.
 With --image the cases are the judgement, the free records and the listing of
 that image, and the listing is printed.
 ";
@@ -112,9 +115,13 @@ fn write_crates(definitions: &Path, out: &Path, options: &Options) -> io::Result
 
 fn chosen(options: &Options) -> io::Result<Vec<Case>> {
     let Some(file) = &options.image else {
-        let drawn = options.count.div_ceil(2);
-        let mut all: Vec<Case> = cases(options.seed, drawn, options.largest).collect();
-        all.extend(evenly(options.count - drawn));
+        let mut all = covering(options)?;
+        all.extend(salvaged(options, |mark, code| mark == 0 && code == GAP));
+        all.extend(salvaged(options, |mark, code| mark != 0 && code == GAP));
+        all.extend(salvaged(options, |mark, code| mark != 0 && code == 0));
+        let rest = options.count.saturating_sub(all.len());
+        all.extend(cases(options.seed, rest.div_ceil(2), options.largest));
+        all.extend(evenly(rest / 2));
         return Ok(all);
     };
     let image = fs::read(file)?;
@@ -126,6 +133,53 @@ fn chosen(options: &Options) -> io::Result<Vec<Case>> {
         call,
     };
     Ok(calls.into_iter().map(case).collect())
+}
+
+/// How many drawn cases are looked through for one that reaches something new.
+const LOOKED_AT: usize = 20_000;
+
+/// The sizes P = 512 and 1024 need images of more than 3,084 and 5,132 bytes.
+const ROOMY: usize = 8_000;
+
+/// A listing that is too long needs an image that is too long to be computed.
+const LEFT_OUT: &str = "listings: TOO LONG";
+
+/// Cases that reach every refusal, judged position, answer and shape between
+/// them: each the first that reaches something new.
+fn covering(options: &Options) -> io::Result<Vec<Case>> {
+    let small = cases(options.seed, LOOKED_AT, options.largest);
+    let roomy = cases(options.seed, LOOKED_AT, options.largest.max(ROOMY));
+    let mut cover = Cover::new();
+    let mut missing = cover.missing();
+    let mut taken = Vec::new();
+    for case in small.chain(roomy) {
+        let mut with = cover.clone();
+        with.count(&case);
+        let left = with.missing();
+        if left.len() < missing.len() {
+            (cover, missing) = (with, left);
+            taken.push(case);
+        }
+        if missing == [LEFT_OUT] {
+            return Ok(taken);
+        }
+    }
+    let message = format!("never reached: {}", missing.join("; "));
+    Err(io::Error::other(message))
+}
+
+/// How many cases of each sort of salvage are taken.
+const OF_EACH: usize = 15;
+
+/// Salvages that answer as asked, from places marked or not: the small images
+/// of the other cases give few gaps.
+fn salvaged(options: &Options, wanted: fn(u64, u8) -> bool) -> impl Iterator<Item = Case> {
+    let drawn = cases(options.seed, LOOKED_AT, options.largest);
+    let asked = move |case: &Case| match case.call {
+        Call::Salvage { mark, .. } => wanted(mark, code(answer(&case.image, &case.call).packed)),
+        _ => false,
+    };
+    drawn.filter(asked).take(OF_EACH)
 }
 
 /// The largest image of the counted cases that are taken.

@@ -68,9 +68,9 @@ pub mod NeededLaws
 pub mod SectorWrites
 -- Refusals: each given exactly when its list says so, and what its place names; what is found; the free records.
 pub mod Refusing
+pub mod FindingLaws
 pub mod PlacesNamed
 pub mod ReadingRefused
-pub mod FindingLaws
 pub mod ExtentWhole
 pub mod FreeLaws
 -- Reading from any place, into any output; what a record given is made of; what a write leaves behind.
