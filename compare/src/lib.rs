@@ -2,6 +2,7 @@
 //! once more, from its words alone, to be compared with the proved library.
 
 pub mod cover;
+pub mod drive;
 pub mod file;
 pub mod label;
 pub mod layout;

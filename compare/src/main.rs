@@ -1,6 +1,7 @@
 //! The command line.
 
 use compare::cover::cover;
+use compare::drive::serve;
 use compare::listing::{listing, MOST_BYTES};
 use compare::make::sample::{named, NAMES};
 use compare::properties::check;
@@ -15,6 +16,7 @@ compare listing                         lists the image on standard input
 compare sample NAME                     writes a sample image to standard output
 compare cover [--seed N] [--count N]    shows what the made cases reach
 compare check [--seed N] [--count N]    checks the properties on made cases
+compare serve [--wrong N]               answers calls as the C driver does, every Nth wrongly
 compare --help                          shows this text
 ";
 
@@ -26,6 +28,8 @@ fn main() -> ExitCode {
         ["sample", name] => sample(name),
         ["cover", options @ ..] => with_options(options, 20_000, show_cover),
         ["check", options @ ..] => with_options(options, 5_000, show_check),
+        ["serve"] => serve_calls("0"),
+        ["serve", "--wrong", every] => serve_calls(every),
         ["--help" | "-h" | "help"] => print(HELP.as_bytes()),
         _ => misused(),
     }
@@ -59,6 +63,17 @@ fn sample(name: &str) -> ExitCode {
             eprintln!("samples: {}", NAMES.join(", "));
             ExitCode::from(2)
         }
+    }
+}
+
+fn serve_calls(every: &str) -> ExitCode {
+    let Ok(every) = every.parse() else {
+        return misused();
+    };
+    let mut output = std::io::stdout().lock();
+    match serve(&mut std::io::stdin().lock(), &mut output, every) {
+        Ok(()) => ExitCode::SUCCESS,
+        Err(_) => ExitCode::FAILURE,
     }
 }
 

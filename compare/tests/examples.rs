@@ -2,7 +2,9 @@
 
 use compare::make::sample::{hdr1, named, sample, Plain};
 use compare::text::{address, address_digits};
-use compare::{count, free, listing, read, salvage, write, Geometry, Place, Reading, Refusal};
+use compare::{
+    count, free, judge, listing, read, salvage, write, Geometry, Place, Reading, Refusal,
+};
 
 fn geometry(l: usize, d: usize, s: usize) -> Geometry {
     Plain::new(l, 10, d, 0, s).geometry
@@ -249,4 +251,22 @@ fn the_two_sided_sample_continues_the_slots_on_side_1() {
     let text = listed("two-sided");
     assert!(text.starts_with("VOLUME DEMO01 L=2 I=8 D=4 P=256 S=2 FREE=0\n"));
     assert!(text.contains("\n2|SECOND ON SIDE 1 |2|S|B|512|0|01104|02104|2|"));
+}
+
+#[test]
+fn the_volumes_for_measuring_are_accepted_with_their_labels() {
+    for (name, length, slots, labels) in [
+        ("smallest", 1_548, 1, 1),
+        ("typical", 271_674, 19, 6),
+        ("largest", 5_283_408, 45, 45),
+        ("largest-one", 5_283_408, 45, 1),
+        ("largest-none", 5_283_408, 45, 0),
+    ] {
+        let image = named(name).expect("a known name");
+        assert_eq!(image.len(), length);
+        let geometry = judge(&image).expect(name);
+        assert_eq!(geometry.slots(), slots);
+        let counted = (1..=slots as u64).filter(|&slot| count(&image, slot).is_ok());
+        assert_eq!(counted.count(), labels, "{name}");
+    }
 }

@@ -1,6 +1,7 @@
 //! The case maker: volumes and cases from a seed. The same seed gives the
 //! same cases on every machine.
 
+pub mod bad;
 pub mod build;
 pub mod calls;
 pub mod content_cases;
@@ -12,6 +13,7 @@ pub mod places;
 pub mod read_cases;
 pub mod rng;
 pub mod sample;
+pub mod sizes;
 pub mod tables;
 pub mod volume_cases;
 pub mod write_cases;

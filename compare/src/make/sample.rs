@@ -1,6 +1,7 @@
 //! Volumes made by hand: the sample of document 01's listing and a few more.
 
 use super::build::plain_geometry;
+use super::sizes::{largest, smallest, typical};
 use crate::layout::{Geometry, INDEX_SECTOR};
 use crate::text::address;
 use crate::writing::write;
@@ -180,25 +181,34 @@ fn refused() -> Plain {
     plain
 }
 
-pub const NAMES: [&str; 6] = [
+pub const NAMES: [&str; 11] = [
     "demo",
     "two-sided",
     "other-level",
     "wrong-mark",
     "split",
     "refused",
+    "smallest",
+    "typical",
+    "largest",
+    "largest-one",
+    "largest-none",
 ];
 
 /// A sample by its name.
 pub fn named(name: &str) -> Option<Vec<u8>> {
-    let plain = match name {
-        "demo" => demo(),
-        "two-sided" => two_sided(),
-        "other-level" => other_level(),
-        "wrong-mark" => wrong_mark(),
-        "split" => split(),
-        "refused" => refused(),
+    Some(match name {
+        "demo" => demo().image,
+        "two-sided" => two_sided().image,
+        "other-level" => other_level().image,
+        "wrong-mark" => wrong_mark().image,
+        "split" => split().image,
+        "refused" => refused().image,
+        "smallest" => smallest(),
+        "typical" => typical(),
+        "largest" => largest(45),
+        "largest-one" => largest(1),
+        "largest-none" => largest(0),
         _ => return None,
-    };
-    Some(plain.image)
+    })
 }

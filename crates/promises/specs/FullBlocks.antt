@@ -72,7 +72,7 @@ module _ (g : Geometry) (image : List ℕ) where
       let (r13, _) = order-each _ h in
       not-false (hasLabel g image slot) (not-given (not (hasLabel g image slot)) _ r13)
 
-  open-level : (slot : ℕ) → openRefusal g image slot ≡ Passed → knownLevel (labelAt g image slot) ≡ true
+  pub open-level : (slot : ℕ) → openRefusal g image slot ≡ Passed → knownLevel (labelAt g image slot) ≡ true
   unfolding openRefusal
   open-level slot h =
       let (r13, (r14, _)) = order-each _ h in

@@ -7,10 +7,11 @@ use mathlib.Core.List.{List}
 use lib.Dec.{leb, ltb, eqb}
 use native.Mathlib.Omega.{arith}
 use native.Mathlib.Nat.{div-add-mod', mod-self}
-use borrow.Author.Tests.{ltb-false, ltb-true, leb-true, eqb-true, lt-ltb}
+use borrow.Author.Tests.{ltb-false, ltb-true, leb-true, eqb-true, lt-ltb, not-true}
 use Rattle.standard.specs.Files.{recordsToBlock}
-use Rattle.standard.specs.Characters.{bytes, oneOf, at, between, aSet}
-use Rattle.standard.specs.Labels.{level, knownLevel, anotherLevel, formatOf, isFixed, isVariable, isSpanned, blockLength, recordLength, isBlocked, rule40, rule23, rule63, rule54, hdr1Rules, labelFault, Format, fixed, variable, spanned}
+use Rattle.standard.specs.Characters.{bytes, oneOf, at, between, aSet, field}
+use Rattle.standard.specs.Addresses.{rank, before, isDataEnd}
+use Rattle.standard.specs.Labels.{level, knownLevel, anotherLevel, formatOf, isFixed, isVariable, isSpanned, blockLength, recordLength, isBlocked, startOf, dataEndOf, rule29, rule40, rule23, rule63, rule54, rule75, hdr1Rules, labelFault, Format, fixed, variable, spanned}
 use Rattle.standard.specs.declared.Geometry.{Geometry}
 use Rattle.promises.specs.Basics.{by-test, true-not-false, and-l, and-r, or-rest, applies, applies-both}
 use Rattle.promises.specs.Judging.{rows-each}
@@ -40,6 +41,16 @@ rules g h z kn =
       r54 = or-rest (anotherLevel h) (rule54 g h) o r54;
       r63 = or-rest (anotherLevel h) (rule63 h) o r63;
     }
+
+-- "75-79 data end: not before start"
+pub data-end-behind : (g : Geometry) (h : List ℕ) → labelFault g h ≡ 0 → knownLevel h ≡ true → rank g (startOf h) ≤ rank g (dataEndOf h)
+unfolding labelFault hdr1Rules rule75 before
+data-end-behind g h z kn =
+    let o = no-other h kn in
+    let (r1, (r6, (r23, (r29, (r35, (r40, (r41, (r42, (r43, (r44, (r45, (r46, (r48, (r54, (r58, (r63, (r64, (r67, (r73, (r75, _)))))))))))))))))))) = rows-each _ z refl in
+    let k = or-rest (anotherLevel h) (isDataEnd g (field h 75 79) && (not (rule29 g h) || not (ltb (rank g (dataEndOf h)) (rank g (startOf h))))) o r75 in
+    let n : not (ltb (rank g (dataEndOf h)) (rank g (startOf h))) ≡ true = rw r29 at (and-r (isDataEnd g (field h 75 79)) _ k) in
+    ltb-false (rank g (dataEndOf h)) (rank g (startOf h)) (not-true _ n)
 
 -- the three formats
 pub data Shape (h : List ℕ) : Type 0 where

@@ -73,11 +73,16 @@ pub mod PlacesNamed
 pub mod ReadingRefused
 pub mod ExtentWhole
 pub mod FreeLaws
+pub mod Sizes
 -- Reading from any place, into any output; what a record given is made of; what a write leaves behind.
 pub mod AnyPlace
 pub mod SalvagedHeard
 pub mod Runs
 pub mod WriteEnds
+pub mod ReadingSizes
+pub mod WritingSizes
+-- The one returned number of the C boundary.
+pub mod PackedLaws
 -- THE DEMANDS
 pub mod Demands
 -- The promises hold of something.

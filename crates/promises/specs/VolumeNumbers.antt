@@ -1,6 +1,6 @@
 -- The numbers of an accepted volume, and where its label slots lie.
 -- Assumes nothing.
-use Prim.Native.Nat.{ℕ, _+_, _-_, _*_, _<_, _≤_}
+use Prim.Native.Nat.{ℕ, _+_, _-_, _*_, _^_, _<_, _≤_}
 use mathlib.Core.Path.{_≡_, refl, subst}
 use mathlib.Core.Bool.{Bool, true, false, cond, not, _&&_, _||_}
 use mathlib.Core.List.{List}
@@ -23,18 +23,21 @@ use Rattle.promises.specs.Judging.{not-given, rows-each, accepted}
 pub record Numbers (g : Geometry) : Type 0 where
   pub cylinders : g .L ≤ 96
   pub index-low : 8 ≤ g .I
+  pub index-high : g .I ≤ 26
   pub sectors : g .D ≤ 26
   pub side-low : 1 ≤ g .S
   pub side-high : g .S ≤ 2
+  pub kind-high : g .k ≤ 3
+  pub size-is : g .P ≡ 128 * 2 ^ g .k
   pub size-low : 0 < g .P
   pub size-high : g .P ≤ 1024
 
-hex-bounds : (low high : ℕ) (f : List ℕ) → hexBetween low high f ≡ true → (low ≤ hex f) × (hex f ≤ high)
+pub hex-bounds : (low high : ℕ) (f : List ℕ) → hexBetween low high f ≡ true → (low ≤ hex f) × (hex f ≤ high)
 hex-bounds low high f h =
     let b = and-r (hexDigits f) _ h in
     (leb-true low (hex f) (and-l (leb low (hex f)) _ b), leb-true (hex f) high (and-r (leb low (hex f)) _ b))
 
-kinds-few : (c : ℕ) → oneOf (bytes " 123") c ≡ true → cond (isSpace c) 0 (digitValue c) ≤ 3
+pub kinds-few : (c : ℕ) → oneOf (bytes " 123") c ≡ true → cond (isSpace c) 0 (digitValue c) ≤ 3
 unfolding oneOf digitValue
 kinds-few c h = go (eqb c 32) (eqb c 49) (eqb c 50) (eqb c 51) refl refl refl refl
   where
@@ -45,7 +48,7 @@ kinds-few c h = go (eqb c 32) (eqb c 49) (eqb c 50) (eqb c 51) refl refl refl re
     go false false false true e f k l = omega (arith, eqb-true c 51 l)
     go false false false false e f k l = absurd (true-not-false (oneOf (bytes " 123") c) h (rw (e, f, k, l)))
 
-of-rules : (image : List ℕ) → lowestFault (vol1Rules (vol1Of image)) ≡ 0 → Numbers (volumeOf image)
+pub of-rules : (image : List ℕ) → lowestFault (vol1Rules (vol1Of image)) ≡ 0 → Numbers (volumeOf image)
 unfolding vol1Rules numbersIn
 of-rules image z =
     let (r1, (r5, (r11, (r38, (r72, (r76, (r77, (r79, (r81, (r83, (r85, (r89, _)))))))))))) = rows-each _ z refl in
@@ -57,9 +60,12 @@ of-rules image z =
     record {
       cylinders = l .1;
       index-low = i .0;
+      index-high = i .1;
       sectors = d .1;
       side-low = s .0;
       side-high = s .1;
+      kind-high = kinds-few (at v 76) r76;
+      size-is = refl;
       size-low = omega (arith, one-le-pow (volumeK v) 2 (omega arith));
       size-high = omega (arith, pow-le-pow-right {n = 2} (omega arith) {j = 3} (kinds-few (at v 76) r76));
     }

@@ -5,7 +5,7 @@ ghost use Prim.Native.Nat.{_+_, _<_};
 ghost use lib.ListN.{getD};
 ghost use lib.Dec.{ltb};
 ghost use Rattle.standard.specs.Characters.{isDigit, digitValue};
-ghost use Rattle.standard.specs.Addresses.{firstAddress, stepped, fiveDigits, twoDigits, fiveRead};
+ghost use Rattle.standard.specs.Addresses.{firstAddress, stepped, fiveDigits, twoDigits, addressIn, fiveRead};
 ghost use Rattle.standard.specs.Places.{start, behindAt, nextBlock, afterGap};
 
 // A refusal: its number in the document's table, and its places, 0 where it has none. (Document 01 has two places at most; the third is kept for a later
@@ -134,11 +134,18 @@ impl Address {
         if !five_digits(field) {
             return FiveDigits::NotDigits;
         }
-        FiveDigits::Digits(Address {
+        FiveDigits::Digits(Address::spelled(field))
+    }
+
+    // The address that five bytes spell, digits or not. Of any bytes its numbers stay small, so that layers above can reckon with them.
+    pub fn spelled(field: &[u8]) -> Address
+        ensures { λ r. ⌜ (r ≡ addressIn (now (field .entry))) × (r .cylinder < 3000) × (r .side < 256) × (r .sector < 3000) ⌝ }
+    {
+        Address {
             cylinder: two_digits(field, 0),
             side: digit(byte_at(field, 2)),
             sector: two_digits(field, 3),
-        })
+        }
     }
 }
 
@@ -244,12 +251,13 @@ pub fn digit(c: u64) -> u64
 // The two digits of a field from i on, as a number.
 fn two_digits(field: &[u8], i: usize) -> u64
     requires { ⌜ i < 4 ⌝ }
-    ensures { λ r. ⌜ r ≡ twoDigits (now (field .entry)) i ⌝ }
+    ensures { λ r. ⌜ (r ≡ twoDigits (now (field .entry)) i) × (r < 3000) ⌝ }
 {
     digit(byte_at(field, i)) * 10 + digit(byte_at(field, i + 1))
 }
 
-fn five_digits(field: &[u8]) -> bool
+// "An address is five digits".
+pub fn five_digits(field: &[u8]) -> bool
     ensures { λ r. ⌜ r ≡ fiveDigits (now (field .entry)) ⌝ }
 {
     is_digit(byte_at(field, 0))

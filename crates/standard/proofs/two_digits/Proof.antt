@@ -1,5 +1,6 @@
 -- `two_digits` meets its contract.
 -- Assumes nothing.
+use native.Mathlib.Omega.{arith}
 use borrow.Author.Needs.{needs}
 use Rattle.standard.proofs.two_digits.Statement.{statement}
 use Rattle.standard.proofs.two_digits.Tie as tie
@@ -26,7 +27,7 @@ add-result : tie.Need-add-result
 add-result c = search needs
 
 returns : tie.Need-returns
-returns c = cc
+returns c = (cc, omega arith)
 
 pub two-digits-spec : {M : Type 1} → statement M
 two-digits-spec =

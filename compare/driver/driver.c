@@ -1,0 +1,164 @@
+/*
+ * Calls the library's exports for the comparison: requests on standard input, an answer to each on standard output, till the input ends.
+ *
+ * A request: a byte, the call's number in the table below; four numbers; three lent byte strings, each a length and its bytes. What a call does not take
+ * is 0 or empty. Numbers have 8 bytes, the lowest first. The first string is the image.
+ *
+ * An answer: the number that the call returned; a byte that says what has changed of the lent bytes (1, 2, 4 for the strings; 128 if a byte before or
+ * behind one); then each string that has changed, as it is now.
+ *
+ * It includes no header but the library's own, so that a compiler without a C library's headers builds it.
+ */
+#include "../../include/galzeranta.h"
+
+typedef galz_u8 u8;
+typedef galz_u64 u64;
+long read(int file, void *bytes, unsigned long most);
+long write(int file, const void *bytes, unsigned long count);
+void *malloc(unsigned long size);
+void free(void *room);
+
+enum { STRINGS = 3, NUMBERS = 4, AROUND = 64, FILL = 0xA5, FAR = 128 };
+
+/* a lent string: room with filled bytes around it, and a copy */
+struct lent {
+	u64 length;
+	u8 *room, *bytes, *copy;
+};
+
+static u64 call_judge(struct lent *s, u64 *n) { (void)n; return galz_judge(s[0].bytes, s[0].length); }
+static u64 call_find(struct lent *s, u64 *n) { (void)n; return galz_find(s[0].bytes, s[0].length, s[1].bytes, s[1].length); }
+static u64 call_count(struct lent *s, u64 *n) { return galz_count(s[0].bytes, s[0].length, n[0]); }
+static u64 call_free(struct lent *s, u64 *n) { (void)n; return galz_free(s[0].bytes, s[0].length); }
+
+/* the calls by their numbers, which src/bin/driven.rs knows too */
+static u64 (*const calls[])(struct lent *, u64 *) = { call_judge, call_find, call_count, call_free };
+
+/* all so many bytes: 1; the input ended before the first: 0; in the midst: -1 */
+static int take(void *to, u64 count)
+{
+	u64 done = 0;
+	while (done < count) {
+		long got = read(0, (u8 *)to + done, count - done);
+		if (got <= 0)
+			return done == 0 && got == 0 ? 0 : -1;
+		done += (u64)got;
+	}
+	return 1;
+}
+
+static int give(const void *from, u64 count)
+{
+	u64 done = 0;
+	while (done < count) {
+		long put = write(1, (const u8 *)from + done, count - done);
+		if (put <= 0)
+			return -1;
+		done += (u64)put;
+	}
+	return 1;
+}
+
+static u64 number(const u8 *bytes)
+{
+	u64 n = 0;
+	for (int i = 7; i >= 0; i--)
+		n = n << 8 | bytes[i];
+	return n;
+}
+
+/* Reads a string into room of its own. Images begin at any address, so the room is entered a little further on each time; strings of numbers keep theirs. */
+static int take_lent(struct lent *lent, u64 shift)
+{
+	u8 length[8];
+	if (take(length, 8) != 1)
+		return -1;
+	lent->length = number(length);
+	lent->room = malloc(lent->length + 2 * AROUND + 16);
+	lent->copy = malloc(lent->length + 1);
+	if (!lent->room || !lent->copy)
+		return -1;
+	lent->bytes = lent->room + AROUND + shift % 16;
+	for (u8 *b = lent->room; b < lent->bytes; b++)
+		*b = FILL;
+	for (u8 *b = lent->bytes + lent->length; b < lent->room + lent->length + 2 * AROUND + 16; b++)
+		*b = FILL;
+	if (lent->length > 0 && take(lent->bytes, lent->length) != 1)
+		return -1;
+	for (u64 i = 0; i < lent->length; i++)
+		lent->copy[i] = lent->bytes[i];
+	return 1;
+}
+
+static int has_changed(const struct lent *lent)
+{
+	for (u64 i = 0; i < lent->length; i++)
+		if (lent->bytes[i] != lent->copy[i])
+			return 1;
+	return 0;
+}
+
+static int has_changed_around(const struct lent *lent)
+{
+	for (const u8 *b = lent->room; b < lent->bytes; b++)
+		if (*b != FILL)
+			return 1;
+	for (const u8 *b = lent->bytes + lent->length; b < lent->room + lent->length + 2 * AROUND + 16; b++)
+		if (*b != FILL)
+			return 1;
+	return 0;
+}
+
+static int answer(u64 returned, struct lent *lent)
+{
+	u8 head[9];
+	for (int i = 0; i < 8; i++)
+		head[i] = (u8)(returned >> 8 * i);
+	head[8] = 0;
+	for (int i = 0; i < STRINGS; i++) {
+		if (has_changed(&lent[i]))
+			head[8] |= (u8)(1 << i);
+		if (has_changed_around(&lent[i]))
+			head[8] |= FAR;
+	}
+	if (give(head, 9) != 1)
+		return -1;
+	for (int i = 0; i < STRINGS; i++)
+		if (head[8] >> i & 1 && give(lent[i].bytes, lent[i].length) != 1)
+			return -1;
+	return 1;
+}
+
+/* One request and its answer: 1; the end of the input: 0; anything amiss: -1. */
+static int serve(u64 turn)
+{
+	u8 call, numbers[8 * NUMBERS];
+	u64 n[NUMBERS];
+	struct lent lent[STRINGS];
+	int began = take(&call, 1);
+	if (began != 1)
+		return began;
+	if (call >= sizeof calls / sizeof *calls || take(numbers, sizeof numbers) != 1)
+		return -1;
+	for (int i = 0; i < NUMBERS; i++)
+		n[i] = number(numbers + 8 * i);
+	for (int i = 0; i < STRINGS; i++)
+		if (take_lent(&lent[i], i == 2 ? 0 : turn + (u64)i) != 1)
+			return -1;
+	if (answer(calls[call](lent, n), lent) != 1)
+		return -1;
+	for (int i = 0; i < STRINGS; i++) {
+		free(lent[i].room);
+		free(lent[i].copy);
+	}
+	return 1;
+}
+
+int main(void)
+{
+	u64 turn = 0;
+	int served;
+	while ((served = serve(turn++)) == 1)
+		;
+	return served == 0 ? 0 : 1;
+}

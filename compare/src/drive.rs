@@ -1,0 +1,206 @@
+//! The library behind a C driver, asked over a pipe: `driver/driver.c` says
+//! the form of requests and answers.
+
+use crate::model::{answer, Call};
+use std::io::{self, BufReader, Read, Write};
+use std::process::{Child, ChildStdin, ChildStdout, Command, Stdio};
+
+/// What a call lends: the image, then name, output or bodies, then lengths.
+pub const STRINGS: usize = 3;
+
+/// A byte before or behind a lent string has changed.
+const AROUND: u8 = 128;
+
+/// A request as the driver reads it.
+struct Request {
+    number: u8,
+    numbers: [u64; 4],
+    lent: [Vec<u8>; STRINGS],
+}
+
+/// What a call returned, and every lent byte afterwards.
+#[derive(Clone, Debug, PartialEq, Eq)]
+pub struct Outcome {
+    pub returned: u64,
+    pub lent: [Vec<u8>; STRINGS],
+    /// Bytes that were not lent have changed.
+    pub around: bool,
+}
+
+/// The request of a call that the driver knows.
+fn request(image: &[u8], call: &Call) -> Option<Request> {
+    let (number, numbers, second) = match call {
+        Call::Judge => (0, [0; 4], Vec::new()),
+        Call::Find { name } => (1, [0; 4], name.clone()),
+        Call::Count { slot } => (2, [*slot, 0, 0, 0], Vec::new()),
+        Call::Free => (3, [0; 4], Vec::new()),
+        Call::Read { .. } | Call::Salvage { .. } | Call::Write { .. } | Call::Listing => {
+            return None
+        }
+    };
+    Some(Request {
+        number,
+        numbers,
+        lent: [image.to_vec(), second, Vec::new()],
+    })
+}
+
+pub fn knows(call: &Call) -> bool {
+    request(&[], call).is_some()
+}
+
+/// What the independent program says of a call that the driver knows.
+pub fn expected(image: &[u8], call: &Call) -> Option<Outcome> {
+    let request = request(image, call)?;
+    let said = answer(image, call);
+    let [_, second, third] = request.lent;
+    Some(Outcome {
+        returned: said.packed,
+        lent: [said.image, second, third],
+        around: false,
+    })
+}
+
+/// A running driver.
+pub struct Driver {
+    child: Child,
+    input: ChildStdin,
+    output: BufReader<ChildStdout>,
+}
+
+impl Driver {
+    pub fn start(command: &[String]) -> io::Result<Driver> {
+        let missing = || io::Error::other("no command of a driver");
+        let (program, words) = command.split_first().ok_or_else(missing)?;
+        let mut child = Command::new(program)
+            .args(words)
+            .stdin(Stdio::piped())
+            .stdout(Stdio::piped())
+            .spawn()?;
+        let (Some(input), Some(output)) = (child.stdin.take(), child.stdout.take()) else {
+            return Err(missing());
+        };
+        Ok(Driver {
+            child,
+            input,
+            output: BufReader::new(output),
+        })
+    }
+
+    /// The outcome of a call; none if the driver does not know it.
+    pub fn ask(&mut self, image: &[u8], call: &Call) -> io::Result<Option<Outcome>> {
+        let Some(request) = request(image, call) else {
+            return Ok(None);
+        };
+        self.input.write_all(&request.bytes())?;
+        self.input.flush()?;
+        self.outcome(request.lent).map(Some)
+    }
+
+    fn outcome(&mut self, mut lent: [Vec<u8>; STRINGS]) -> io::Result<Outcome> {
+        let mut head = [0; 9];
+        self.output.read_exact(&mut head)?;
+        let [returned @ .., changed] = head;
+        for (place, string) in lent.iter_mut().enumerate() {
+            if changed >> place & 1 == 1 {
+                self.output.read_exact(string)?;
+            }
+        }
+        Ok(Outcome {
+            returned: u64::from_le_bytes(returned),
+            lent,
+            around: changed & AROUND != 0,
+        })
+    }
+
+    /// Ends the input and waits; whether the driver ended well.
+    pub fn end(self) -> io::Result<bool> {
+        let Driver {
+            mut child, input, ..
+        } = self;
+        drop(input);
+        Ok(child.wait()?.success())
+    }
+}
+
+fn number(input: &mut impl Read) -> io::Result<u64> {
+    let mut bytes = [0; 8];
+    input.read_exact(&mut bytes)?;
+    Ok(u64::from_le_bytes(bytes))
+}
+
+impl Request {
+    /// The next request; none where the input ends.
+    fn read(input: &mut impl Read) -> io::Result<Option<Request>> {
+        let mut first = [0];
+        if input.read(&mut first)? == 0 {
+            return Ok(None);
+        }
+        let mut request = Request {
+            number: first[0],
+            numbers: [0; 4],
+            lent: Default::default(),
+        };
+        for place in &mut request.numbers {
+            *place = number(input)?;
+        }
+        for string in &mut request.lent {
+            *string = vec![0; number(input)? as usize];
+            input.read_exact(string)?;
+        }
+        Ok(Some(request))
+    }
+
+    fn call(&self) -> io::Result<Call> {
+        Ok(match self.number {
+            0 => Call::Judge,
+            1 => Call::Find {
+                name: self.lent[1].clone(),
+            },
+            2 => Call::Count {
+                slot: self.numbers[0],
+            },
+            3 => Call::Free,
+            _ => return Err(io::Error::other("no such call")),
+        })
+    }
+
+    fn bytes(&self) -> Vec<u8> {
+        let mut bytes = vec![self.number];
+        for number in self.numbers {
+            bytes.extend(number.to_le_bytes());
+        }
+        for string in &self.lent {
+            bytes.extend((string.len() as u64).to_le_bytes());
+            bytes.extend(string);
+        }
+        bytes
+    }
+}
+
+/// Answers requests as a driver does, from the independent program, till the
+/// input ends. Every answer whose turn `wrong` divides is wrong, in turn in
+/// the number, in a lent byte and in a byte that was not lent. It serves the
+/// tests of the comparison itself.
+pub fn serve(input: &mut impl Read, output: &mut impl Write, wrong: usize) -> io::Result<()> {
+    let mut turn = 0;
+    while let Some(request) = Request::read(input)? {
+        turn += 1;
+        let said = answer(&request.lent[0], &request.call()?);
+        let mut reply = said.packed.to_le_bytes().to_vec();
+        reply.push(0);
+        if wrong > 0 && turn % wrong == 0 {
+            match turn / wrong % 3 {
+                0 => reply[0] ^= 1,
+                1 => reply[8] = AROUND,
+                _ => {
+                    reply[8] = 1;
+                    reply.extend(request.lent[0].iter().map(|byte| !byte));
+                }
+            }
+        }
+        output.write_all(&reply)?;
+        output.flush()?;
+    }
+    Ok(())
+}

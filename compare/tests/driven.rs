@@ -1,0 +1,69 @@
+//! The comparisons themselves: they find nothing where nothing is wrong, and
+//! find what is wrong.
+
+use std::process::{Command, Output};
+
+fn run(program: &str, words: &[&str]) -> Output {
+    Command::new(program)
+        .args(words)
+        .output()
+        .expect("the program starts")
+}
+
+fn text(output: &Output) -> String {
+    String::from_utf8_lossy(&output.stdout).into_owned()
+}
+
+const DRIVEN: &str = env!("CARGO_BIN_EXE_driven");
+const LISTED: &str = env!("CARGO_BIN_EXE_listed");
+const COMPARE: &str = env!("CARGO_BIN_EXE_compare");
+
+fn driven(words: &[&str]) -> Output {
+    let few = ["--count", "60", "--every", "2000", "--"];
+    run(DRIVEN, &[&few[..], words].concat())
+}
+
+#[test]
+fn the_program_itself_behind_a_pipe_differs_nowhere() {
+    let output = driven(&[COMPARE, "serve"]);
+    assert!(output.status.success());
+    let text = text(&output);
+    assert!(text.ends_with(" passed, 0 failed\n"));
+    assert!(!text.contains("DIFFERENT"));
+}
+
+#[test]
+fn every_wrong_answer_is_found_and_told() {
+    let output = driven(&[COMPARE, "serve", "--wrong", "1000"]);
+    assert_eq!(output.status.code(), Some(1));
+    let text = text(&output);
+    assert_eq!(text.matches("DIFFERENT: seed 28081, ").count(), 10);
+    assert!(text.contains("; the image changed\n"));
+    assert!(text.contains("; bytes that were not lent changed\n"));
+    let tally = text.lines().last().expect("a tally");
+    let numbers: Vec<usize> = tally.split(' ').filter_map(|w| w.parse().ok()).collect();
+    assert_eq!(numbers[1], (numbers[0] + numbers[1]) / 1000);
+}
+
+#[test]
+fn a_driver_that_ends_early_is_a_failure() {
+    let output = driven(&["true"]);
+    assert_eq!(output.status.code(), Some(1));
+    assert!(text(&output).ends_with("0 passed, 1 failed\n"));
+    assert_eq!(driven(&[]).status.code(), Some(1));
+    assert_eq!(
+        run(DRIVEN, &["--seed", "x", "--", "true"]).status.code(),
+        Some(2)
+    );
+}
+
+#[test]
+fn the_listing_is_compared_byte_for_byte() {
+    let right = run(LISTED, &["--count", "20", "--", COMPARE, "listing"]);
+    assert!(right.status.success());
+    assert!(text(&right).ends_with("31 passed, 0 failed\n"));
+    let wrong = run(LISTED, &["--count", "20", "--", COMPARE, "--help"]);
+    assert_eq!(wrong.status.code(), Some(1));
+    assert!(text(&wrong).ends_with("0 passed, 31 failed\n"));
+    assert_eq!(run(LISTED, &["--count"]).status.code(), Some(2));
+}

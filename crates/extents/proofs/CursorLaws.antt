@@ -1,0 +1,113 @@
+-- One step of a cursor, and what it stands on.
+-- Assumes nothing.
+use Prim.Native.Nat.{ℕ, suc, zero, _+_, _-_, _*_, _<_, _≤_}
+use mathlib.Core.Path.{_≡_, refl, sym, ap, _∙_}
+use mathlib.Core.Bool.{Bool, true, false, cond, not, _&&_}
+use mathlib.Core.List.{List, [], _∷_}
+use lib.ListN.{length, drop}
+use lib.Seq.{drop-drop}
+use lib.Dec.{eqb}
+use native.Mathlib.Omega.{arith}
+use native.Mathlib.Numerals.{unary-clauses}
+use Rattle.standard.specs.Layout.{incorrectMark, firstByte}
+use Rattle.standard.specs.Addresses.{legal, stepped, ordinal}
+use Rattle.standard.specs.Files.{addressesFrom, goodAmong, isDefective, isWrong}
+use Rattle.standard.specs.declared.Geometry.{Geometry}
+use Rattle.standard.specs.declared.Address.{Address}
+use Rattle.promises.specs.AddressLaws.{parts}
+use Rattle.promises.specs.Basics.{by-test, and-l, and-r}
+use Rattle.extents.specs.Cursors.{legalOn, goodFrom, standing}
+use Rattle.extents.specs.declared.Cursor.{Cursor}
+
+pub legal-small : (g : Geometry) (a : Address) → g .L < 256 → g .S < 256 → g .D < 256 → legal g a ≡ true
+    → (1 ≤ a .cylinder) × (a .cylinder < 3000) × (a .side < 256) × (1 ≤ a .sector) × (a .sector < 3000)
+legal-small g a l s d h =
+    let p = parts g a h in
+    (p .cylinder-low, omega (arith, p .cylinder-high), omega (arith, p .side-low), p .sector-low, omega (arith, p .sector-high))
+
+-- what the mark and the first byte say of a record
+module _ (g : Geometry) (image : List ℕ) (a : Address) where
+  pub defect-none : incorrectMark g image (ordinal g a) ≡ false → isDefective g image a ≡ false
+  unfolding isDefective
+  defect-none h = simp h
+
+  pub defect-first : incorrectMark g image (ordinal g a) ≡ true → isDefective g image a ≡ eqb (firstByte g image (ordinal g a)) 70
+  unfolding isDefective
+  defect-first h = simp h
+
+  pub wrong-none : incorrectMark g image (ordinal g a) ≡ false → isWrong g image a ≡ false
+  unfolding isWrong
+  wrong-none h = simp h
+
+  pub wrong-first : incorrectMark g image (ordinal g a) ≡ true → isWrong g image a ≡ not (eqb (firstByte g image (ordinal g a)) 70)
+  unfolding isWrong
+  wrong-first h = simp h
+
+-- a cursor with an address left
+pub legal-head : (g : Geometry) (left : ℕ) (a : Address) → 0 < left → legalOn g left a ≡ true → legal g a ≡ true
+unfolding legalOn
+legal-head g zero a l h = absurd (omega arith)
+legal-head g (suc n) a l h = and-l (legal g a) _ h
+
+pub legal-next : (g : Geometry) (left : ℕ) (a : Address) → 0 < left → legalOn g left a ≡ true → legalOn g (left - 1) (stepped g a) ≡ true
+unfolding legalOn
+legal-next g zero a l h = absurd (omega arith)
+legal-next g (suc n) a l h = simp unary-clauses (and-r (legal g a) _ h)
+
+pub good-skip : (g : Geometry) (image : List ℕ) (left : ℕ) (a : Address) → 0 < left → isDefective g image a ≡ true
+    → goodFrom g image (left - 1) (stepped g a) ≡ goodFrom g image left a
+unfolding goodAmong addressesFrom
+good-skip g image zero a l h = absurd (omega arith)
+good-skip g image (suc n) a l h = simp (unary-clauses, h)
+
+pub good-stand : (g : Geometry) (image : List ℕ) (left : ℕ) (a : Address) → 0 < left → isDefective g image a ≡ false
+    → standing g image (record { at = a; left = left }) ≡ goodFrom g image left a
+unfolding goodAmong addressesFrom standing
+good-stand g image zero a l h = absurd (omega arith)
+good-stand g image (suc n) a l h = simp h
+
+pub good-none : (g : Geometry) (image : List ℕ) (left : ℕ) (a : Address) → left ≤ 0
+    → standing g image (record { at = a; left = 0 }) ≡ goodFrom g image left a
+unfolding goodAmong addressesFrom standing
+good-none g image zero a l = refl
+good-none g image (suc n) a l = absurd (omega arith)
+
+pub legal-none : (g : Geometry) (a : Address) → legalOn g 0 a ≡ true
+unfolding legalOn
+legal-none g a = refl
+
+pub stand-next : (g : Geometry) (image : List ℕ) (left : ℕ) (a : Address) → 0 < left
+    → goodFrom g image (left - 1) (stepped g a) ≡ drop 1 (standing g image (record { at = a; left = left }))
+unfolding standing
+stand-next g image zero a l = absurd (omega arith)
+stand-next g image (suc n) a l = simp unary-clauses
+
+pub stand-none : (g : Geometry) (image : List ℕ) (c : Cursor) → c .left ≤ 0 → standing g image c ≡ []
+unfolding standing
+stand-none g image c l = let e : c .left ≡ 0 = omega arith in rw e
+
+pub good-length : (g : Geometry) (image : List ℕ) (left : ℕ) (a : Address) → 0 < left
+    → length (goodFrom g image left a) ≡ cond (isDefective g image a) 0 1 + length (goodFrom g image (left - 1) (stepped g a))
+unfolding goodAmong addressesFrom
+good-length g image zero a l = absurd (omega arith)
+good-length g image (suc n) a l = simp unary-clauses (by-test (isDefective g image a) (λ h. rw h (omega arith)) (λ h. rw h (omega arith)))
+
+pub good-empty : (g : Geometry) (image : List ℕ) (left : ℕ) (a : Address) → left ≤ 0 → length (goodFrom g image left a) ≡ 0
+unfolding goodAmong addressesFrom
+good-empty g image zero a l = refl
+good-empty g image (suc n) a l = absurd (omega arith)
+
+pub drop-none : {A : Type 0} (n : ℕ) → _≡_ {A = List A} (drop n []) []
+drop-none zero = refl
+drop-none (suc n) = refl
+
+pub drop-past : {A : Type 0} (i n : ℕ) (s : List A) → i ≤ n → drop i s ≡ [] → drop n s ≡ []
+drop-past i n s l e =
+    let d : i + (n - i) ≡ n = omega arith in
+    sym (ap (λ (k : ℕ). drop k s) d) ∙ (sym (drop-drop (n - i) i s) ∙ (ap (drop (n - i)) e ∙ drop-none (n - i)))
+
+pub legal-fewer : (g : Geometry) (n left : ℕ) (a : Address) → n ≤ left → legalOn g left a ≡ true → legalOn g n a ≡ true
+unfolding legalOn
+legal-fewer g zero left a l h = refl
+legal-fewer g (suc n) zero a l h = absurd (omega arith)
+legal-fewer g (suc n) (suc left) a l h = rw (and-l (legal g a) _ h, legal-fewer g n left (stepped g a) (omega arith) (and-r (legal g a) _ h))

@@ -1,0 +1,53 @@
+-- `spaces_or_number` meets its contract: blank, not digits, or a number that is compared.
+-- Assumes nothing.
+use mathlib.Core.Path.{sym, _∙_}
+use mathlib.Core.Path.{_∙_}
+use mathlib.Core.Path.{_∙_}
+use borrow.Author.Needs.{needs}
+use denote.Ref.{now}
+use Rattle.standard.specs.Characters.{digits, number}
+use Rattle.standard.specs.Characters.{digits, number}
+use Rattle.standard.specs.Characters.{number}
+use Rattle.fields.proofs.PerhapsLaws.{test-holds, number-is, test-fails}
+use Rattle.fields.proofs.PerhapsLaws.{test-holds, number-is, test-fails}
+use Rattle.fields.proofs.PerhapsLaws.{test-holds, number-is, test-fails}
+use Rattle.fields.proofs.NumberLaws.{blank-yes, number-no, number-yes}
+use Rattle.fields.proofs.spaces_or_number.Statement.{statement}
+use Rattle.fields.proofs.spaces_or_number.Tie as tie
+
+all-of-requires : tie.Need-all-of-requires
+all-of-requires c κs = search needs
+
+returns : tie.Need-returns
+returns c = blank-yes _ _ _ (cc)
+
+decimal-in-requires : tie.Need-decimal-in-requires
+decimal-in-requires c κs = search needs
+
+enum-known-read : tie.Need-enum-known-read
+enum-known-read c = search needs
+
+enum-told : tie.Need-enum-told
+enum-told c = search needs
+
+returns-2 : tie.Need-returns-2
+returns-2 c = number-no _ _ _ (cc) (test-fails (digits (now (c .before .before .before .before .before .before .args .f))) (number (now (c .before .before .before .before .before .before .args .f))) (cc))
+
+in-range-requires : tie.Need-in-range-requires
+in-range-requires c κs = search needs
+
+returns-3 : tie.Need-returns-3
+returns-3 c = c .in-range .ensures ∙ number-yes _ _ (now (c .before .before .before .before .before .before .before .before .args .f)) _ (cc) (test-holds _ _ _ (sym (c .before .before .before .before .decimal-in .ensures) ∙ c .before .before .read .given .1)) (number-is _ _ _ (sym (c .before .before .before .before .decimal-in .ensures) ∙ c .before .before .read .given .1))
+
+pub spaces-or-number-spec : {M : Type 1} → statement M
+spaces-or-number-spec =
+    tie.close
+    (tie.spec
+    all-of-requires
+    returns
+    decimal-in-requires
+    enum-known-read
+    enum-told
+    returns-2
+    in-range-requires
+    returns-3)

@@ -1,0 +1,13 @@
+-- The kinds of characters that fields are made of, as tests.
+-- Assumes nothing.
+use Prim.Native.Nat.{ℕ}
+use mathlib.Core.Bool.{Bool}
+use Rattle.standard.specs.Characters.{aSet, isSpace, isDigit, isHex}
+use Rattle.fields.specs.declared.Class.{Class}
+use Rattle.fields.specs.declared.Class.the-variants.{Aset, Space, Digit, Hex}
+
+abbrev pub classed : Class → ℕ → Bool
+classed Aset = aSet
+classed Space = isSpace
+classed Digit = isDigit
+classed Hex = isHex

@@ -1,0 +1,2 @@
+-- What a blank field means
+pub mod BlankLaws

@@ -1,0 +1,18 @@
+-- `end_rank` meets its contract.
+-- Assumes nothing.
+use native.Mathlib.Omega.{arith}
+use borrow.Author.Needs.{needs}
+use Rattle.labels.proofs.end_rank.Statement.{statement}
+use Rattle.labels.proofs.end_rank.Tie as tie
+
+end-of-requires : tie.Need-end-of-requires
+end-of-requires c κs = search needs
+
+rank-of-requires : tie.Need-rank-of-requires
+rank-of-requires c κs = search needs
+
+returns : tie.Need-returns
+returns c = (cc, omega arith)
+
+pub end-rank-spec : {M : Type 1} → statement M
+end-rank-spec = tie.close (tie.spec end-of-requires rank-of-requires returns)

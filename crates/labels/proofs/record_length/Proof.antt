@@ -1,0 +1,56 @@
+-- `record_length` meets its contract: B for a blank field, the number for another.
+-- Assumes nothing.
+use native.Mathlib.Omega.{arith}
+use borrow.Author.Needs.{needs}
+use Rattle.labels.proofs.BlankLaws.{record-same, record-own}
+use Rattle.labels.proofs.record_length.Statement.{statement}
+use Rattle.labels.proofs.record_length.Tie as tie
+
+sub-all-of : tie.Need-sub-all-of
+sub-all-of c = search needs
+
+part-all-of-start : tie.Need-part-all-of-start
+part-all-of-start c = search needs
+
+part-all-of-end : tie.Need-part-all-of-end
+part-all-of-end c = search needs
+
+all-of-requires : tie.Need-all-of-requires
+all-of-requires c κs = search needs
+
+block-length-requires : tie.Need-block-length-requires
+block-length-requires c κs = search needs
+
+returns : tie.Need-returns
+returns c = (record-same _ _ (cc) (cc), omega arith)
+
+sub-number-4 : tie.Need-sub-number-4
+sub-number-4 c = search needs
+
+part-number-4-start : tie.Need-part-number-4-start
+part-number-4-start c = search needs
+
+part-number-4-end : tie.Need-part-number-4-end
+part-number-4-end c = search needs
+
+number-4-requires : tie.Need-number-4-requires
+number-4-requires c κs = search needs
+
+returns-2 : tie.Need-returns-2
+returns-2 c = (record-own _ _ (cc) (cc), omega arith)
+
+pub record-length-spec : {M : Type 1} → statement M
+record-length-spec =
+    tie.close
+    (tie.spec
+    sub-all-of
+    part-all-of-start
+    part-all-of-end
+    all-of-requires
+    block-length-requires
+    returns
+    sub-number-4
+    part-number-4-start
+    part-number-4-end
+    number-4-requires
+    returns-2)

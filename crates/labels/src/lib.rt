@@ -1,0 +1,154 @@
+// A label: what its fields say, and which of its rules is broken. A label is the 128 bytes of its slot; all functions serve the layers above (inner).
+use fields::Class;
+use fields::all_of;
+use fields::is;
+use fields::number_4;
+use fields::number_5;
+use fields::one_of_1;
+use fields::one_of_2;
+use fields::rank_of;
+use fields::same_as;
+use standard::Address;
+use standard::Geometry;
+use standard::wide;
+ghost use mathlib.Core.Path.{_≡_};
+ghost use mathlib.Core.Bool.{_&&_, _||_, not};
+ghost use Prim.Native.Nat.{_<_};
+ghost use lib.ListN.{length};
+ghost use Rattle.standard.specs.Characters.{bytes, field, same};
+ghost use Rattle.standard.specs.Addresses.{rank};
+ghost use Rattle.standard.specs.Labels.{level, knownLevel, nameOf, blockLength, startOf, endOf, isFixed, isVariable, isSpanned, recordLength, unusedCount, isBlocked, dataEndOf};
+
+// "1-4 `HDR1`"
+pub fn is_hdr1(h: &[u8]) -> bool
+    requires { ⌜ length (now h) ≡ 128 ⌝ }
+    ensures { λ r. ⌜ r ≡ same (field (now (h .entry)) 1 4) (bytes "HDR1") ⌝ }
+{
+    same_as(&h[0..4], b"HDR1")
+}
+
+// "Position 44 is the level".
+pub fn level_of(h: &[u8]) -> u64
+    requires { ⌜ length (now h) ≡ 128 ⌝ }
+    ensures { λ r. ⌜ (r ≡ level (now (h .entry))) × (r < 256) ⌝ }
+{
+    wide(h[43])
+}
+
+pub fn known_level(h: &[u8]) -> bool
+    requires { ⌜ length (now h) ≡ 128 ⌝ }
+    ensures { λ r. ⌜ r ≡ knownLevel (now (h .entry)) ⌝ }
+{
+    let c = level_of(h);
+    (c == 32) | (c == 49) | (c == 50)
+}
+
+pub fn name_is(h: &[u8], name: &[u8]) -> bool
+    requires { ⌜ length (now h) ≡ 128 ⌝ }
+    ensures { λ r. ⌜ r ≡ same (nameOf (now (h .entry))) (now (name .entry)) ⌝ }
+{
+    same_as(&h[5..22], name)
+}
+
+// "29-33 start; 35-39 end"; "75-79 data end": the address, and its rank among the data addresses. The bounds are those of any bytes.
+pub fn start_of(h: &[u8]) -> Address
+    requires { ⌜ length (now h) ≡ 128 ⌝ }
+    ensures { λ r. ⌜ (r ≡ startOf (now (h .entry))) × (r .cylinder < 3000) × (r .side < 256) × (r .sector < 3000) ⌝ }
+{
+    Address::spelled(&h[28..33])
+}
+
+pub fn end_of(h: &[u8]) -> Address
+    requires { ⌜ length (now h) ≡ 128 ⌝ }
+    ensures { λ r. ⌜ (r ≡ endOf (now (h .entry))) × (r .cylinder < 3000) × (r .side < 256) × (r .sector < 3000) ⌝ }
+{
+    Address::spelled(&h[34..39])
+}
+
+pub fn data_end_of(h: &[u8]) -> Address
+    requires { ⌜ length (now h) ≡ 128 ⌝ }
+    ensures { λ r. ⌜ (r ≡ dataEndOf (now (h .entry))) × (r .cylinder < 3000) × (r .side < 256) × (r .sector < 3000) ⌝ }
+{
+    Address::spelled(&h[74..79])
+}
+
+pub fn start_rank(g: Geometry, h: &[u8]) -> u64
+    requires { ⌜ length (now h) ≡ 128 ⌝ }
+    ensures { λ r. ⌜ (r ≡ rank g (startOf (now (h .entry)))) × (r < 4294967296) ⌝ }
+{
+    rank_of(g, start_of(h))
+}
+
+pub fn end_rank(g: Geometry, h: &[u8]) -> u64
+    requires { ⌜ length (now h) ≡ 128 ⌝ }
+    ensures { λ r. ⌜ (r ≡ rank g (endOf (now (h .entry)))) × (r < 4294967296) ⌝ }
+{
+    rank_of(g, end_of(h))
+}
+
+pub fn data_end_rank(g: Geometry, h: &[u8]) -> u64
+    requires { ⌜ length (now h) ≡ 128 ⌝ }
+    ensures { λ r. ⌜ (r ≡ rank g (dataEndOf (now (h .entry)))) × (r < 4294967296) ⌝ }
+{
+    rank_of(g, data_end_of(h))
+}
+
+// "40 space or F (fixed), V, S"
+pub fn is_fixed(h: &[u8]) -> bool
+    requires { ⌜ length (now h) ≡ 128 ⌝ }
+    ensures { λ r. ⌜ r ≡ isFixed (now (h .entry)) ⌝ }
+{
+    one_of_2(wide(h[39]), 32, 70)
+}
+
+pub fn is_variable(h: &[u8]) -> bool
+    requires { ⌜ length (now h) ≡ 128 ⌝ }
+    ensures { λ r. ⌜ r ≡ isVariable (now (h .entry)) ⌝ }
+{
+    one_of_1(wide(h[39]), 86)
+}
+
+pub fn is_spanned(h: &[u8]) -> bool
+    requires { ⌜ length (now h) ≡ 128 ⌝ }
+    ensures { λ r. ⌜ r ≡ isSpanned (now (h .entry)) ⌝ }
+{
+    one_of_1(wide(h[39]), 83)
+}
+
+// "63 space, or B for blocked"
+pub fn is_blocked(h: &[u8]) -> bool
+    requires { ⌜ length (now h) ≡ 128 ⌝ }
+    ensures { λ r. ⌜ r ≡ isBlocked (now (h .entry)) ⌝ }
+{
+    is(wide(h[62]), 66)
+}
+
+// "23-27 block length B"
+pub fn block_length(h: &[u8]) -> u64
+    requires { ⌜ length (now h) ≡ 128 ⌝ }
+    ensures { λ r. ⌜ (r ≡ blockLength (now (h .entry))) × (r < 10000000) ⌝ }
+{
+    number_5(&h[22..27])
+}
+
+// "54-57 record length R; spaces mean R = B."
+pub fn record_length(h: &[u8]) -> u64
+    requires { ⌜ length (now h) ≡ 128 ⌝ }
+    ensures { λ r. ⌜ (r ≡ recordLength (now (h .entry))) × (r < 10000000) ⌝ }
+{
+    if all_of(Class::Space, &h[53..57]) {
+        return block_length(h);
+    }
+    number_4(&h[53..57])
+}
+
+// "58-62 unused count U, spaces meaning 0"
+pub fn unused_count(h: &[u8]) -> u64
+    requires { ⌜ length (now h) ≡ 128 ⌝ }
+    ensures { λ r. ⌜ (r ≡ unusedCount (now (h .entry))) × (r < 10000000) ⌝ }
+{
+    if all_of(Class::Space, &h[57..62]) {
+        return 0;
+    }
+    number_5(&h[57..62])
+}

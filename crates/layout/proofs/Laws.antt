@@ -1,0 +1,80 @@
+-- Where things lie: each way out of a definition of the layout, and the room that an accepted volume has.
+-- Assumes nothing.
+use Prim.Native.Nat.{ℕ, _+_, _-_, _*_, _<_, _≤_}
+use mathlib.Core.Path.{_≡_, refl, sym, ap, _∙_}
+use mathlib.Core.List.{List}
+use lib.ListN.{length, getD, take, drop}
+use native.Mathlib.Omega.{arith}
+use borrow.Author.Tests.{lt-ltb, le-ltb, le-leb, lt-leb, eq-eqb, ne-eqb}
+use Rattle.standard.specs.Layout.{ordinalAt, indexSectors, kAt, kindOffset, bodyOffset, kindAt, firstByte, slotCount, slotOrdinal, labelOffset, labelAt, indexBody}
+use Rattle.standard.specs.Defects.{skipOne, physical}
+use Rattle.standard.specs.Addresses.{ordinal}
+use Rattle.standard.specs.declared.Geometry.{Geometry}
+use Rattle.standard.specs.declared.Address.{Address}
+
+-- a sector: in the index cylinder, and behind it
+module _ (g : Geometry) (n r : ℕ) where
+  pub offset-first : n < indexSectors g → r ≡ n * 129 → r ≡ kindOffset g n
+  unfolding kindOffset
+  offset-first h e = simp (lt-ltb n (indexSectors g) h) e
+
+  pub offset-later : indexSectors g ≤ n → r ≡ indexSectors g * 129 + (n - indexSectors g) * (g .P + 1) → r ≡ kindOffset g n
+  unfolding kindOffset
+  offset-later h e = simp (le-ltb n (indexSectors g) h) e
+
+  pub k-first : n < indexSectors g → r ≡ 0 → r ≡ kAt g n
+  unfolding kAt
+  k-first h e = simp (lt-ltb n (indexSectors g) h) e
+
+  pub k-later : indexSectors g ≤ n → r ≡ g .k → r ≡ kAt g n
+  unfolding kAt
+  k-later h e = simp (le-ltb n (indexSectors g) h) e
+
+-- slots
+pub two-sides : (g : Geometry) (r : ℕ) → g .S ≡ 2 → r ≡ g .I - 7 + g .I → r ≡ slotCount g
+unfolding slotCount
+two-sides g r h e = simp (eq-eqb (g .S) 2 h) e
+
+pub one-side : (g : Geometry) (r : ℕ) → (g .S ≡ 2 → ⊥) → r ≡ g .I - 7 → r ≡ slotCount g
+unfolding slotCount
+one-side g r h e = simp (ne-eqb (g .S) 2 h) (omega (arith, e))
+
+module _ (g : Geometry) (slot : ℕ) (h : slot + 6 < indexSectors g) where
+  pub label-begins : (slot + 6) * 129 + 1 ≡ labelOffset g slot
+  unfolding labelOffset bodyOffset slotOrdinal
+  label-begins = ap (λ (m : ℕ). m + 1) (offset-first g (slot + 6) ((slot + 6) * 129) h refl)
+
+  pub slot-kind-is : (image : List ℕ) (r : ℕ) → r ≡ getD image ((slot + 6) * 129) 0 → r ≡ kindAt g image (slotOrdinal slot)
+  unfolding kindAt slotOrdinal
+  slot-kind-is image r e = e ∙ ap (λ (m : ℕ). getD image m 0) (offset-first g (slot + 6) ((slot + 6) * 129) h refl)
+
+pub slot-first-is : (g : Geometry) (slot : ℕ) (image : List ℕ) (r a : ℕ) → r ≡ getD image a 0 → a ≡ labelOffset g slot → r ≡ firstByte g image (slotOrdinal slot)
+unfolding firstByte labelOffset
+slot-first-is g slot image r a e f = e ∙ ap (λ (m : ℕ). getD image m 0) f
+
+-- the part of the image that holds a label, or the body of a sector of index side 0
+pub part-of : (s : List ℕ) (a : ℕ) → take (a + 128 - a) (drop a s) ≡ take 128 (drop a s)
+part-of s a = let n : a + 128 - a ≡ 128 = omega arith in ap (λ (m : ℕ). take m (drop a s)) n
+
+pub label-part : (g : Geometry) (s : List ℕ) (slot a : ℕ) → a ≡ labelOffset g slot → take (a + 128 - a) (drop a s) ≡ labelAt g s slot
+unfolding labelAt
+label-part g s slot a e = part-of s a ∙ ap (λ (m : ℕ). take 128 (drop m s)) e
+
+-- the skip of a defective cylinder
+pub skip-yes : (d c : ℕ) → 0 < d → d ≤ c → c + 1 ≡ skipOne d c
+unfolding skipOne
+skip-yes d c h l = simp (lt-ltb 0 d h, le-leb d c l)
+
+pub skip-absent : (d c : ℕ) → d ≤ 0 → c ≡ skipOne d c
+unfolding skipOne
+skip-absent d c h = simp (le-ltb 0 d h)
+
+pub skip-above : (d c : ℕ) → c < d → c ≡ skipOne d c
+unfolding skipOne
+skip-above d c h = simp (lt-ltb 0 d (omega arith), lt-leb d c h)
+
+pub ordinal-from : (g : Geometry) (a : Address) (f t q : ℕ) → f ≡ indexSectors g → q ≡ physical g (a .cylinder) → 1 ≤ q
+    → t ≡ ((q - 1) * g .S + a .side) * g .D → f + t + (a .sector - 1) ≡ ordinal g a
+unfolding ordinal ordinalAt
+ordinal-from g a f t q e p h u =
+    rw (u, e, p) (simp (ne-eqb (physical g (a .cylinder)) 0 (λ (z : physical g (a .cylinder) ≡ 0). omega arith)))

@@ -1,0 +1,191 @@
+-- Refusal 6 by runs: a walk at equal distances finds the first sector whose kind is none of its three.
+-- Assumes nothing.
+use Prim.Native.Nat.{ℕ, zero, suc, _+_, _-_, _*_, _<_, _≤_}
+use mathlib.Core.Path.{_≡_, refl, sym, ap, _∙_}
+use mathlib.Core.Bool.{Bool, true, false, not, cond}
+use mathlib.Core.List.{List}
+use lib.ListN.{length, getD}
+use lib.Dec.{ltb}
+use native.Mathlib.Numerals.{add-one}
+use native.Mathlib.Omega.{arith}
+use borrow.Author.Tests.{lt-ltb, le-ltb, not-true, not-false}
+use Rattle.standard.specs.Layout.{indexSectors, sectorCount, imageLength, kAt, kindOffset, kindAt, validMark, incorrectMark, checkFailed}
+use Rattle.standard.specs.Refusals.{refuse}
+use Rattle.standard.specs.Judgement.{legalKind, kindsFrom, refusal6}
+use Rattle.standard.specs.declared.Geometry.{Geometry}
+use Rattle.standard.specs.declared.Checked.{Checked}
+use Rattle.standard.specs.declared.Checked.the-variants.{Passed, Stopped}
+use Rattle.promises.specs.Basics.{by-test}
+use Rattle.layout.specs.Runs.{kindOf, legalRun}
+use Rattle.layout.proofs.Laws.{offset-first, offset-later, k-first, k-later}
+
+-- one turn of the walk, and its end: `n` sectors in all, `left` of them left
+module _ (image : List ℕ) (size k : ℕ) where
+  run-go : (left m at : ℕ) → left ≡ suc m → legalRun image size k left at ≡ cond (kindOf k (getD image at 0)) (suc (legalRun image size k m (at + size))) 0
+  unfolding legalRun
+  run-go left m at e = rw e
+
+  pub run-more : (left at : ℕ) → 0 < left → not (kindOf k (getD image at 0)) ≡ false
+      → legalRun image size k left at ≡ suc (legalRun image size k (left - 1) (at + size))
+  run-more left at h t = run-go left (left - 1) at (omega arith)
+      ∙ ap (λ (b : Bool). cond b (suc (legalRun image size k (left - 1) (at + size))) 0) (not-false (kindOf k (getD image at 0)) t)
+
+  pub run-stop : (left at : ℕ) → 0 < left → not (kindOf k (getD image at 0)) ≡ true → legalRun image size k left at ≡ 0
+  run-stop left at h t = run-go left (left - 1) at (omega arith)
+      ∙ ap (λ (b : Bool). cond b (suc (legalRun image size k (left - 1) (at + size))) 0) (not-true (kindOf k (getD image at 0)) t)
+
+  pub run-end : (left at : ℕ) → left ≤ 0 → legalRun image size k left at ≡ 0
+  unfolding legalRun
+  run-end left at h = let e : left ≡ 0 = omega arith in rw e
+
+pub one-turn : (left size : ℕ) → 0 < left → left * size ≡ size + (left - 1) * size
+one-turn left size h = go (left - 1) (omega arith)
+  where
+    go : (m : ℕ) → left ≡ suc m → left * size ≡ size + m * size
+    go m e = rw e (omega arith)
+
+-- sectors from `ordinal` on whose kinds stand at `at`, `at + size`, .. and are those of one k
+module _ (g : Geometry) (image : List ℕ) (size k : ℕ) where
+  abbrev pub Run : ℕ → ℕ → ℕ → Type 0
+  Run left at ordinal = (i : ℕ) → i < left → legalKind g image (ordinal + i) ≡ kindOf k (getD image (at + i * size) 0)
+
+  run-next : (left at ordinal : ℕ) → Run (suc left) at ordinal → Run left (at + size) (ordinal + 1)
+  run-next left at ordinal h i l =
+      let e : ordinal + 1 + i ≡ ordinal + suc i = omega arith in
+      let f : at + suc i * size ≡ at + size + i * size = omega arith in
+      ap (legalKind g image) e ∙ h (suc i) (omega arith) ∙ ap (λ (n : ℕ). kindOf k (getD image n 0)) f
+
+  run-here : (left at ordinal : ℕ) → Run (suc left) at ordinal → legalKind g image ordinal ≡ kindOf k (getD image at 0)
+  run-here left at ordinal h =
+      let e : ordinal ≡ ordinal + 0 = omega arith in
+      let f : at + 0 * size ≡ at = omega arith in
+      ap (legalKind g image) e ∙ h 0 (omega arith) ∙ ap (λ (n : ℕ). kindOf k (getD image n 0)) f
+
+  kinds-on : (left rest ordinal : ℕ) → legalKind g image ordinal ≡ true → kindsFrom g image (suc left + rest) ordinal ≡ kindsFrom g image (left + rest) (ordinal + 1)
+  unfolding kindsFrom
+  kinds-on left rest ordinal t = let e : suc left + rest ≡ suc (left + rest) = omega arith in rw e (simp t)
+
+  kinds-out : (left rest ordinal : ℕ) → legalKind g image ordinal ≡ false → kindsFrom g image (suc left + rest) ordinal ≡ Stopped (refuse 6 ordinal)
+  unfolding kindsFrom
+  kinds-out left rest ordinal t = let e : suc left + rest ≡ suc (left + rest) = omega arith in rw e (simp t)
+
+  abbrev found : ℕ → ℕ → ℕ
+  found left at = legalRun image size k left at
+
+  found-more : (left at : ℕ) → kindOf k (getD image at 0) ≡ true → found (suc left) at ≡ suc (found left (at + size))
+  unfolding legalRun
+  found-more left at t = simp t
+
+  found-here : (left at : ℕ) → kindOf k (getD image at 0) ≡ false → found (suc left) at ≡ 0
+  unfolding legalRun
+  found-here left at t = simp t
+
+  found-none : (at : ℕ) → found 0 at ≡ 0
+  unfolding legalRun
+  found-none at = refl
+
+  -- THE WALK IS THE DEFINITION'S: where it stops inside the run, there is the first sector at fault
+  pub run-finds : (left rest at ordinal : ℕ) → Run left at ordinal → found left at < left
+      → kindsFrom g image (left + rest) ordinal ≡ Stopped (refuse 6 (ordinal + found left at))
+  run-finds zero rest at ordinal h l = absurd (omega (arith, found-none at))
+  run-finds (suc left) rest at ordinal h l =
+      by-test (kindOf k (getD image at 0))
+      (λ t.
+      let f = found-more left at t in
+      let e : ordinal + 1 + found left (at + size) ≡ ordinal + found (suc left) at = omega arith in
+      kinds-on left rest ordinal (run-here left at ordinal h ∙ t)
+      ∙ run-finds left rest (at + size) (ordinal + 1) (run-next left at ordinal h) (omega arith)
+      ∙ ap (λ (n : ℕ). Stopped (refuse 6 n)) e)
+      (λ t.
+      let e : ordinal ≡ ordinal + found (suc left) at = omega (arith, found-here left at t) in
+      kinds-out left rest ordinal (run-here left at ordinal h ∙ t) ∙ ap (λ (n : ℕ). Stopped (refuse 6 n)) e)
+
+  -- and where it does not, what is left is what stands behind the run
+  pub run-passes : (left rest at ordinal : ℕ) → Run left at ordinal → left ≤ found left at
+      → kindsFrom g image (left + rest) ordinal ≡ kindsFrom g image rest (ordinal + left)
+  run-passes zero rest at ordinal h l =
+      let e : 0 + rest ≡ rest = omega arith in
+      let f : ordinal ≡ ordinal + 0 = omega arith in
+      ap (λ (n : ℕ). kindsFrom g image n ordinal) e ∙ ap (kindsFrom g image rest) f
+  run-passes (suc left) rest at ordinal h l =
+      by-test (kindOf k (getD image at 0))
+      (λ t.
+      let f = found-more left at t in
+      let e : ordinal + 1 + left ≡ ordinal + suc left = omega arith in
+      kinds-on left rest ordinal (run-here left at ordinal h ∙ t)
+      ∙ run-passes left rest (at + size) (ordinal + 1) (run-next left at ordinal h) (omega arith)
+      ∙ ap (kindsFrom g image rest) e)
+      (λ t. absurd (omega (arith, found-here left at t)))
+
+-- the two runs of an image: the index cylinder with k = 0, and the cylinders behind it
+kind-legal : (g : Geometry) (image : List ℕ) (n k at : ℕ) → k ≡ kAt g n → at ≡ kindOffset g n → legalKind g image n ≡ kindOf k (getD image at 0)
+unfolding legalKind validMark incorrectMark checkFailed kindAt kindOf
+kind-legal g image n k at e f = rw (e, f)
+
+module _ (g : Geometry) (image : List ℕ) where
+  abbrev pub later : ℕ
+  later = (g .L + 3) * g .S * g .D
+
+  run-first : Run g image 129 0 (indexSectors g) 0 0
+  run-first i l = kind-legal g image (0 + i) 0 (0 + i * 129) (k-first g (0 + i) 0 (omega arith) refl) (offset-first g (0 + i) (0 + i * 129) (omega arith) (omega arith))
+
+  run-behind : Run g image (g .P + 1) (g .k) later (indexSectors g * 129) (indexSectors g)
+  run-behind i l =
+      let e : indexSectors g + i - indexSectors g ≡ i = omega arith in
+      kind-legal g image (indexSectors g + i) (g .k) (indexSectors g * 129 + i * (g .P + 1))
+      (k-later g (indexSectors g + i) (g .k) (omega arith) refl)
+      (offset-later g (indexSectors g + i) (indexSectors g * 129 + i * (g .P + 1)) (omega arith) (rw e))
+
+  pub kinds-first : (i : ℕ) → i ≡ legalRun image 129 0 (indexSectors g) 0 → i < indexSectors g → Stopped (refuse 6 i) ≡ refusal6 g image
+  unfolding sectorCount
+  kinds-first i e l =
+      let f : 0 + legalRun image 129 0 (indexSectors g) 0 ≡ i = omega arith in
+      sym (run-finds g image 129 0 (indexSectors g) later 0 0 run-first (omega arith) ∙ ap (λ (n : ℕ). Stopped (refuse 6 n)) f)
+
+  behind : (i : ℕ) → i ≡ legalRun image 129 0 (indexSectors g) 0 → indexSectors g ≤ i → refusal6 g image ≡ kindsFrom g image (later + 0) (indexSectors g)
+  unfolding sectorCount
+  behind i e l =
+      let f : later ≡ later + 0 = omega arith in
+      let z : 0 + indexSectors g ≡ indexSectors g = omega arith in
+      run-passes g image 129 0 (indexSectors g) later 0 0 run-first (omega arith)
+      ∙ ap (λ (n : ℕ). kindsFrom g image later n) z ∙ ap (λ (n : ℕ). kindsFrom g image n (indexSectors g)) f
+
+  abbrev pub foundBehind : ℕ
+  foundBehind = legalRun image (g .P + 1) (g .k) later (indexSectors g * 129)
+
+  pub kinds-behind : (i j n : ℕ) → i ≡ legalRun image 129 0 (indexSectors g) 0 → indexSectors g ≤ i → j ≡ foundBehind → j < later → n ≡ indexSectors g + j
+      → Stopped (refuse 6 n) ≡ refusal6 g image
+  kinds-behind i j n e l f m q =
+      let z : indexSectors g + foundBehind ≡ n = omega arith in
+      sym (behind i e l ∙ run-finds g image (g .P + 1) (g .k) later 0 (indexSectors g * 129) (indexSectors g) run-behind (omega arith)
+      ∙ ap (λ (x : ℕ). Stopped (refuse 6 x)) z)
+
+  pub kinds-none : (i j : ℕ) → i ≡ legalRun image 129 0 (indexSectors g) 0 → indexSectors g ≤ i → j ≡ foundBehind → later ≤ j → Passed ≡ refusal6 g image
+  unfolding kindsFrom
+  kinds-none i j e l f m =
+      sym (behind i e l ∙ run-passes g image (g .P + 1) (g .k) later 0 (indexSectors g * 129) (indexSectors g) run-behind (omega arith))
+
+-- as the code has them: n sectors in the index cylinder, m behind it, of p + 1 bytes and with k
+module _ (g : Geometry) (image : List ℕ) (n : ℕ) (en : n ≡ indexSectors g) where
+  pub first-fits : length image ≡ imageLength g → 0 + n * 129 ≤ length image
+  unfolding imageLength
+  first-fits h = omega (arith, h, en)
+
+  pub stops-first : (i : ℕ) → i ≡ legalRun image 129 0 n 0 → i < n → Stopped (refuse 6 i) ≡ refusal6 g image
+  stops-first i e l = kinds-first g image i (e ∙ ap (λ (x : ℕ). legalRun image 129 0 x 0) en) (omega arith)
+
+  module _ (m p k : ℕ) (em : m ≡ later g image) (ep : p ≡ g .P) (ek : k ≡ g .k) where
+    pub behind-fits : length image ≡ imageLength g → n * 129 + m * (p + 1) ≤ length image
+    unfolding imageLength
+    behind-fits h = rw (en, em, ep) (omega (arith, h))
+
+    so : (j : ℕ) → j ≡ legalRun image (p + 1) k m (n * 129) → j ≡ foundBehind g image
+    so j e = e ∙ rw (en, em, ep, ek)
+
+    module _ (i j : ℕ) (ei : i ≡ legalRun image 129 0 n 0) (li : n ≤ i) (ej : j ≡ legalRun image (p + 1) k m (n * 129)) where
+      pub stops-behind : j < m → Stopped (refuse 6 (n + j)) ≡ refusal6 g image
+      stops-behind l =
+          kinds-behind g image i j (n + j) (ei ∙ ap (λ (x : ℕ). legalRun image 129 0 x 0) en) (omega arith) (so j ej) (omega arith) (omega arith)
+
+      pub stops-nowhere : m ≤ j → Passed ≡ refusal6 g image
+      stops-nowhere l = kinds-none g image i j (ei ∙ ap (λ (x : ℕ). legalRun image 129 0 x 0) en) (omega arith) (so j ej) (omega arith)

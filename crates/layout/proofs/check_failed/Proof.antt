@@ -1,0 +1,22 @@
+-- `check_failed` meets its contract.
+-- Assumes nothing.
+use Rattle.standard.specs.Layout.{checkFailed}
+use borrow.Author.Needs.{needs}
+use Rattle.layout.proofs.check_failed.Statement.{statement}
+use Rattle.layout.proofs.check_failed.Tie as tie
+
+k-at-requires : tie.Need-k-at-requires
+k-at-requires c κs = search needs
+
+add-k : tie.Need-add-k
+add-k c = search needs
+
+kind-at-requires : tie.Need-kind-at-requires
+kind-at-requires c κs = search needs
+
+returns : tie.Need-returns
+unfolding checkFailed
+returns c = cc
+
+pub check-failed-spec : {M : Type 1} → statement M
+check-failed-spec = tie.close (tie.spec k-at-requires add-k kind-at-requires returns)

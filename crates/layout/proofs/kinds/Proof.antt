@@ -1,0 +1,80 @@
+-- `kinds` meets its contract: the walk over the index cylinder, then the walk over the others.
+-- Assumes nothing.
+use Rattle.layout.proofs.RunLaws.{first-fits, behind-fits, stops-first, stops-behind, stops-nowhere}
+use mathlib.Core.Path.{ap, _∙_}
+use denote.Ref.{now}
+use Rattle.standard.specs.declared.Checked.the-variants.{Stopped}
+use native.Mathlib.Omega.{arith}
+use borrow.Author.Needs.{needs}
+use Rattle.layout.proofs.kinds.Statement.{statement}
+use Rattle.layout.proofs.kinds.Tie as tie
+
+index-sectors-requires : tie.Need-index-sectors-requires
+index-sectors-requires c κs = search needs
+
+legal-run-requires : tie.Need-legal-run-requires
+legal-run-requires c κs = (omega arith, omega arith, first-fits _ (now (c .before .before .args .image)) _ (c .index-sectors .ensures .0) (c .before .before .pre))
+
+no-kind-requires : tie.Need-no-kind-requires
+no-kind-requires c κs = search needs
+
+returns : tie.Need-returns
+returns c = ap Stopped (c .no-kind .ensures) ∙ stops-first _ _ (c .before .before .before .index-sectors .result) (c .before .before .before .index-sectors .ensures .0) _ (c .before .before .legal-run .ensures) (omega arith)
+
+later-sectors-requires : tie.Need-later-sectors-requires
+later-sectors-requires c κs = search needs
+
+wide16-requires : tie.Need-wide16-requires
+wide16-requires c κs = search needs
+
+add-size : tie.Need-add-size
+add-size c = search needs
+
+mul-start : tie.Need-mul-start
+mul-start c = search needs
+
+wide-requires : tie.Need-wide-requires
+wide-requires c κs = search needs
+
+legal-run-requires-2 : tie.Need-legal-run-requires-2
+legal-run-requires-2 c κs = (
+  omega arith,
+  omega arith,
+  behind-fits _ (now (c .before .before .before .before .before .before .before .args .image)) (c .before .before .before .before .before .index-sectors .result) (c .before .before .before .before .before .index-sectors .ensures .0) (c .before .before .later-sectors .result) (c .before .wide16 .result) (c .wide .result) (c .before .before .later-sectors .ensures .0) (c .before .wide16 .ensures .0) (c .wide .ensures .0) (c .before .before .before .before .before .before .before .pre),
+)
+
+add-no-kind : tie.Need-add-no-kind
+add-no-kind c = search needs
+
+no-kind-requires-2 : tie.Need-no-kind-requires-2
+no-kind-requires-2 c κs = search needs
+
+returns-2 : tie.Need-returns-2
+returns-2 c =
+    ap Stopped (c .no-kind2 .ensures)
+    ∙ stops-behind _ _ (c .before .before .before .before .before .before .before .before .index-sectors .result) (c .before .before .before .before .before .before .before .before .index-sectors .ensures .0) (c .before .before .before .before .before .later-sectors .result) (c .before .before .before .before .wide16 .result) (c .before .before .before .wide .result) (c .before .before .before .before .before .later-sectors .ensures .0) (c .before .before .before .before .wide16 .ensures .0) (c .before .before .before .wide .ensures .0)
+    (c .before .before .before .before .before .before .before .legal-run .result) (c .before .before .legal-run2 .result) (c .before .before .before .before .before .before .before .legal-run .ensures) (omega arith) (c .before .before .legal-run2 .ensures) (omega arith)
+
+returns-3 : tie.Need-returns-3
+returns-3 c =
+    stops-nowhere _ _ (c .before .before .before .before .before .before .before .index-sectors .result) (c .before .before .before .before .before .before .before .index-sectors .ensures .0) (c .before .before .before .before .later-sectors .result) (c .before .before .before .wide16 .result) (c .before .before .wide .result) (c .before .before .before .before .later-sectors .ensures .0) (c .before .before .before .wide16 .ensures .0) (c .before .before .wide .ensures .0)
+    (c .before .before .before .before .before .before .legal-run .result) (c .before .legal-run2 .result) (c .before .before .before .before .before .before .legal-run .ensures) (omega arith) (c .before .legal-run2 .ensures) (omega arith)
+
+pub kinds-spec : {M : Type 1} → statement M
+kinds-spec =
+    tie.close
+    (tie.spec
+    index-sectors-requires
+    legal-run-requires
+    no-kind-requires
+    returns
+    later-sectors-requires
+    wide16-requires
+    add-size
+    mul-start
+    wide-requires
+    legal-run-requires-2
+    add-no-kind
+    no-kind-requires-2
+    returns-2
+    returns-3)

@@ -1,0 +1,24 @@
+-- `slot_kind` meets its contract.
+-- Assumes nothing.
+use Rattle.layout.proofs.Laws.{slot-kind-is}
+use borrow.Author.Needs.{needs}
+use Rattle.layout.proofs.slot_kind.Statement.{statement}
+use Rattle.layout.proofs.slot_kind.Tie as tie
+
+add-at : tie.Need-add-at
+add-at c = search needs
+
+mul-at : tie.Need-mul-at
+mul-at c = search needs
+
+shared-slice-read-wide : tie.Need-shared-slice-read-wide
+shared-slice-read-wide c = search needs
+
+wide-requires : tie.Need-wide-requires
+wide-requires c κs = search needs
+
+returns : tie.Need-returns
+returns c = (slot-kind-is _ _ (search needs) _ _ (c .wide .ensures .0), search needs)
+
+pub slot-kind-spec : {M : Type 1} → statement M
+slot-kind-spec = tie.close (tie.spec add-at mul-at shared-slice-read-wide wide-requires returns)

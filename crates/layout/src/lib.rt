@@ -1,0 +1,270 @@
+// All access to the image: where a sector, a label or an address lies, and the bytes there. Everything here is inner: the layers above call it, and
+// meet what it requires.
+use fields::minus;
+use fields::times;
+use fields::times16;
+use fields::wide16;
+use standard::Address;
+use standard::Checked;
+use standard::Geometry;
+use standard::Refusal;
+use standard::byte_at;
+use standard::wide;
+ghost use mathlib.Core.Path.{_≡_};
+ghost use Prim.Native.Nat.{_+_, _-_, _*_, _<_, _≤_};
+ghost use lib.ListN.{length};
+ghost use Rattle.standard.specs.Layout.{indexSectors, sectorCount, kAt, kindOffset, bodyOffset, imageLength, kindAt, firstByte, validMark, incorrectMark, checkFailed, indexKind, indexBody, slotCount, slotOrdinal, labelOffset, labelAt};
+ghost use Rattle.standard.specs.Defects.{skipOne, physical};
+ghost use Rattle.standard.specs.Addresses.{ordinal};
+ghost use Rattle.standard.specs.Refusals.{refuse};
+ghost use Rattle.standard.specs.Judgement.{refusal6};
+ghost use Rattle.layout.specs.Room.{Room};
+ghost use Rattle.layout.specs.Runs.{kindOf, legalRun};
+
+// The sectors of the index cylinder; those of the cylinders behind it; all of them.
+pub fn index_sectors(g: Geometry) -> u64
+    ensures { λ r. ⌜ (r ≡ indexSectors g) × (r < 65536) ⌝ }
+{
+    times(wide(g.S), wide(g.I))
+}
+
+pub fn later_sectors(g: Geometry) -> u64
+    ensures { λ r. ⌜ (r ≡ (g .L + 3) * g .S * g .D) × (r < 33554432) ⌝ }
+{
+    times(times(wide(g.L) + 3, wide(g.S)), wide(g.D))
+}
+
+pub fn sector_count(g: Geometry) -> u64
+    ensures { λ r. ⌜ (r ≡ sectorCount g) × (r < 67108864) ⌝ }
+{
+    index_sectors(g) + later_sectors(g)
+}
+
+// "Length: S·I·129 + (L+3)·S·D·(P+1) bytes"
+pub fn image_length(g: Geometry) -> u64
+    ensures { λ r. ⌜ (r ≡ imageLength g) × (r < 4398046511104) ⌝ }
+{
+    index_sectors(g) * 129 + times16(later_sectors(g), wide16(g.P) + 1)
+}
+
+// "08 to I are label slots 1 to I-7. On two-sided volumes, side 1 sectors 01 to I continue the slots."
+pub fn slot_count(g: Geometry) -> u64
+    ensures { λ r. ⌜ (r ≡ slotCount g) × (r < 65536) ⌝ }
+{
+    let sides = wide(g.S);
+    let n = wide(g.I);
+    let first = minus(n, 7);
+    if sides == 2 {
+        return first + n;
+    }
+    first
+}
+
+// Sectors by ordinal: the k of its kinds, and where it begins.
+fn k_at(g: Geometry, n: u64) -> u64
+    ensures { λ r. ⌜ (r ≡ kAt g n) × (r < 256) ⌝ }
+{
+    let first = index_sectors(g);
+    if n < first {
+        return 0;
+    }
+    wide(g.k)
+}
+
+pub fn kind_offset(g: Geometry, n: u64) -> u64
+    requires { ⌜ n < 4294967296 ⌝ }
+    ensures { λ r. ⌜ (r ≡ kindOffset g n) × (r < 562949953421312) ⌝ }
+{
+    let first = index_sectors(g);
+    if n < first {
+        return n * 129;
+    }
+    first * 129 + times16(n - first, wide16(g.P) + 1)
+}
+
+pub fn kind_at(g: Geometry, image: &[u8], n: u64) -> u64
+    requires { ⌜ n < 4294967296 ⌝ }
+    ensures { λ r. ⌜ (r ≡ kindAt g (now (image .entry)) n) × (r < 256) ⌝ }
+{
+    byte_at(image, kind_offset(g, n) as usize)
+}
+
+pub fn first_byte(g: Geometry, image: &[u8], n: u64) -> u64
+    requires { ⌜ n < 4294967296 ⌝ }
+    ensures { λ r. ⌜ (r ≡ firstByte g (now (image .entry)) n) × (r < 256) ⌝ }
+{
+    byte_at(image, (kind_offset(g, n) + 1) as usize)
+}
+
+// "Kind k: valid data mark. Kind 16+k: incorrect-data mark. Kind 32+k: check failed, body not trusted."
+pub fn valid_mark(g: Geometry, image: &[u8], n: u64) -> bool
+    requires { ⌜ n < 4294967296 ⌝ }
+    ensures { λ r. ⌜ r ≡ validMark g (now (image .entry)) n ⌝ }
+{
+    let k = k_at(g, n);
+    kind_at(g, image, n) == k
+}
+
+pub fn incorrect_mark(g: Geometry, image: &[u8], n: u64) -> bool
+    requires { ⌜ n < 4294967296 ⌝ }
+    ensures { λ r. ⌜ r ≡ incorrectMark g (now (image .entry)) n ⌝ }
+{
+    let k = 16 + k_at(g, n);
+    kind_at(g, image, n) == k
+}
+
+pub fn check_failed(g: Geometry, image: &[u8], n: u64) -> bool
+    requires { ⌜ n < 4294967296 ⌝ }
+    ensures { λ r. ⌜ r ≡ checkFailed g (now (image .entry)) n ⌝ }
+{
+    let k = 32 + k_at(g, n);
+    kind_at(g, image, n) == k
+}
+
+// ERMAP and VOL1, which are read before the volume's numbers are known: the kind and the body of a sector of index side 0.
+pub fn index_kind(image: &[u8], sector: u64) -> u64
+    requires { ⌜ (903 ≤ length (now image)) × (1 ≤ sector) × (sector ≤ 7) ⌝ }
+    ensures { λ r. ⌜ (r ≡ indexKind (now (image .entry)) sector) × (r < 256) ⌝ }
+{
+    let at = ((sector - 1) * 129) as usize;
+    wide(image[at])
+}
+
+pub fn index_body(image: &[u8], sector: u64) -> &[u8]
+    requires { ⌜ (903 ≤ length (now image)) × (1 ≤ sector) × (sector ≤ 7) ⌝ }
+    ensures { λ r. ⌜ (now r ≡ indexBody (now (image .entry)) sector) × (length (now r) ≡ 128) ⌝ }
+{
+    let a = ((sector - 1) * 129 + 1) as usize;
+    let e = a + 128;
+    &image[a..e]
+}
+
+// A slot's sector, which is in the index cylinder: where its label begins, the label itself, and the byte of kind and the first byte.
+pub fn label_offset(g: Geometry, slot: u64) -> u64
+    requires { ⌜ (slot < 65536) × (slot + 6 < indexSectors g) ⌝ }
+    ensures { λ r. ⌜ (r ≡ labelOffset g slot) × (r ≡ (slot + 6) * 129 + 1) ⌝ }
+{
+    (slot + 6) * 129 + 1
+}
+
+pub fn label_at(g: Geometry, image: &[u8], slot: u64) -> &[u8]
+    requires { ⌜ Room g (now image) slot ⌝ }
+    ensures { λ r. ⌜ (now r ≡ labelAt g (now (image .entry)) slot) × (length (now r) ≡ 128) ⌝ }
+{
+    let a = label_offset(g, slot) as usize;
+    let e = a + 128;
+    &image[a..e]
+}
+
+pub fn slot_kind(g: Geometry, image: &[u8], slot: u64) -> u64
+    requires { ⌜ Room g (now image) slot ⌝ }
+    ensures { λ r. ⌜ (r ≡ kindAt g (now (image .entry)) (slotOrdinal slot)) × (r < 256) ⌝ }
+{
+    let at = ((slot + 6) * 129) as usize;
+    wide(image[at])
+}
+
+pub fn slot_first(g: Geometry, image: &[u8], slot: u64) -> u64
+    requires { ⌜ Room g (now image) slot ⌝ }
+    ensures { λ r. ⌜ (r ≡ firstByte g (now (image .entry)) (slotOrdinal slot)) × (r < 256) ⌝ }
+{
+    let at = label_offset(g, slot) as usize;
+    wide(image[at])
+}
+
+// "q is c, or c+1 if d1 is present and d1 ≤ c; the physical cylinder is q, or q+1 if d2 is present and d2 ≤ q."
+fn skip_one(d: u64, c: u64) -> u64
+    requires { ⌜ c < 65536 ⌝ }
+    ensures { λ r. ⌜ (r ≡ skipOne d c) × (c ≤ r) × (r ≤ c + 1) ⌝ }
+{
+    if 0 < d {
+        if d <= c {
+            return c + 1;
+        }
+    }
+    c
+}
+
+pub fn physical_of(g: Geometry, c: u64) -> u64
+    requires { ⌜ c < 3000 ⌝ }
+    ensures { λ r. ⌜ (r ≡ physical g c) × (c ≤ r) × (r ≤ c + 2) ⌝ }
+{
+    let q = skip_one(wide(g.d1), c);
+    skip_one(wide(g.d2), q)
+}
+
+// The ordinal of the sector that has a data address.
+pub fn ordinal_of(g: Geometry, a: Address) -> u64
+    requires { ⌜ (1 ≤ a .cylinder) × (a .cylinder < 3000) × (a .side < 256) × (1 ≤ a .sector) × (a .sector < 3000) ⌝ }
+    ensures { λ r. ⌜ (r ≡ ordinal g a) × (r < 4294967296) ⌝ }
+{
+    let c = a.cylinder;
+    let s = a.side;
+    let n = a.sector;
+    let q = physical_of(g, c);
+    let track = times(q - 1, wide(g.S)) + s;
+    index_sectors(g) + times(track, wide(g.D)) + (n - 1)
+}
+
+// Refusal 6. Most sectors have the valid mark, so that is asked first.
+fn is_kind(k: u64, c: u64) -> bool
+    requires { ⌜ k < 256 ⌝ }
+    ensures { λ r. ⌜ r ≡ kindOf k c ⌝ }
+{
+    if c == k {
+        return true;
+    }
+    if c == 16 + k {
+        return true;
+    }
+    c == 32 + k
+}
+
+// A walk over n sectors of one size: how many come before the first whose kind is none of the three.
+fn legal_run(image: &[u8], first: usize, size: usize, k: u64, n: u64) -> u64
+    requires { ⌜ (1 ≤ size) × (k < 256) × (first + n * size ≤ length (now image)) ⌝ }
+    ensures { λ r. ⌜ r ≡ legalRun (now (image .entry)) size k n first ⌝ }
+{
+    let mut at = first;
+    let mut left = n;
+    while 0 < left {
+        let c = wide(image[at]);
+        if !is_kind(k, c) {
+            return n - left;
+        }
+        at += size;
+        left -= 1;
+    }
+    n
+}
+
+// "a sector's kind not one of its three", "ordinal from 0": the index cylinder with k = 0, then all others with the k of VOL1.
+pub fn kinds(g: Geometry, image: &[u8]) -> Checked
+    requires { ⌜ length (now image) ≡ imageLength g ⌝ }
+    ensures { λ r. ⌜ r ≡ refusal6 g (now (image .entry)) ⌝ }
+{
+    let n = index_sectors(g);
+    let i = legal_run(image, 0, 129, 0, n);
+    if i < n {
+        return Checked::Stopped(no_kind(i));
+    }
+    let m = later_sectors(g);
+    let size = (wide16(g.P) + 1) as usize;
+    let start = (n * 129) as usize;
+    let j = legal_run(image, start, size, wide(g.k), m);
+    if j < m {
+        return Checked::Stopped(no_kind(n + j));
+    }
+    Checked::Passed
+}
+
+fn no_kind(ordinal: u64) -> Refusal
+    ensures { λ r. ⌜ r ≡ refuse 6 ordinal ⌝ }
+{
+    Refusal {
+        number: 6,
+        first: ordinal,
+        second: 0,
+        third: 0,
+    }
+}

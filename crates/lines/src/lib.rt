@@ -1,0 +1,187 @@
+// The lines of the listing, put one after another into a lent buffer.
+use fields::wide16;
+use labels::block_length;
+use labels::end_of;
+use labels::is_blocked;
+use labels::level_of;
+use labels::record_length;
+use labels::start_of;
+use labels::unused_count;
+use standard::Address;
+use standard::Counted;
+use standard::Geometry;
+use standard::Refusal;
+use standard::wide;
+use text::put_byte;
+use text::put_bytes;
+use text::put_number;
+use text::put_padded;
+ghost use mathlib.Core.Path.{_≡_};
+ghost use mathlib.Core.List.{[], _∷_, _++_};
+ghost use Prim.Native.Nat.{_+_, _<_, _≤_};
+ghost use lib.ListN.{length};
+ghost use Rattle.standard.specs.Characters.{shown};
+ghost use Rattle.standard.specs.Addresses.{fiveBytes};
+ghost use Rattle.standard.specs.Labels.{level, formatOf};
+ghost use Rattle.standard.specs.Listing.{levelShown, formatShown, blockedShown, countShown, refusedLine, otherLine};
+ghost use Rattle.text.specs.Laid.{Puts};
+ghost use Rattle.lines.specs.Parts.{bar, numbersShown, firstFields, lengthFields, extentFields, lastFields};
+
+// A name and a number: ` L=5`.
+fn put_named(out: &mut [u8], at: usize, name: &[u8], n: u64) -> usize
+    requires { ⌜ (at < 16777216) × (length (now name) ≤ 8) ⌝ }
+    ensures { λ r. ⌜ Puts (now (out .entry)) (now (out .exit)) at r (now (name .entry) ++ shown n) × (r ≤ at + 28) ⌝ }
+{
+    let next = put_bytes(out, at, name);
+    put_number(out, next, n)
+}
+
+fn put_numbers(out: &mut [u8], at: usize, g: Geometry) -> usize
+    requires { ⌜ at < 8388608 ⌝ }
+    ensures { λ r. ⌜ Puts (now (out .entry)) (now (out .exit)) at r (numbersShown g) × (r ≤ at + 140) ⌝ }
+{
+    let l = put_named(out, at, b" L=", wide(g.L));
+    let i = put_named(out, l, b" I=", wide(g.I));
+    let d = put_named(out, i, b" D=", wide(g.D));
+    let p = put_named(out, d, b" P=", wide16(g.P));
+    put_named(out, p, b" S=", wide(g.S))
+}
+
+// "level (`.` for space), format (`F` for space), `B` or `-`"
+fn level_shown(h: &[u8]) -> u8
+    requires { ⌜ length (now h) ≡ 128 ⌝ }
+    ensures { λ r. ⌜ r ≡ levelShown (now (h .entry)) ⌝ }
+{
+    let c = h[43];
+    if c == 32 {
+        return 46;
+    }
+    c
+}
+
+fn format_shown(h: &[u8]) -> u8
+    requires { ⌜ length (now h) ≡ 128 ⌝ }
+    ensures { λ r. ⌜ r ≡ formatShown (formatOf (now (h .entry))) ⌝ }
+{
+    let c = h[39];
+    if c == 86 {
+        return 86;
+    }
+    if c == 83 {
+        return 83;
+    }
+    70
+}
+
+fn blocked_shown(h: &[u8]) -> u8
+    requires { ⌜ length (now h) ≡ 128 ⌝ }
+    ensures { λ r. ⌜ r ≡ blockedShown (now (h .entry)) ⌝ }
+{
+    if is_blocked(h) {
+        return 66;
+    }
+    45
+}
+
+// A bar, and a field of one character; of a number; of an address; of a count.
+fn put_character(out: &mut [u8], at: usize, c: u8) -> usize
+    requires { ⌜ at < 16777216 ⌝ }
+    ensures { λ r. ⌜ Puts (now (out .entry)) (now (out .exit)) at r (bar (c ∷ [])) × (r ≤ at + 2) ⌝ }
+{
+    let next = put_byte(out, at, 124);
+    put_byte(out, next, c)
+}
+
+fn put_amount(out: &mut [u8], at: usize, n: u64) -> usize
+    requires { ⌜ at < 16777216 ⌝ }
+    ensures { λ r. ⌜ Puts (now (out .entry)) (now (out .exit)) at r (bar (shown n)) × (r ≤ at + 21) ⌝ }
+{
+    let next = put_byte(out, at, 124);
+    put_number(out, next, n)
+}
+
+fn put_address(out: &mut [u8], at: usize, a: Address) -> usize
+    requires { ⌜ (at < 16777216) × (a .cylinder < 3000) × (a .side < 256) × (a .sector < 3000) ⌝ }
+    ensures { λ r. ⌜ Puts (now (out .entry)) (now (out .exit)) at r (bar (fiveBytes a)) × (r ≤ at + 6) ⌝ }
+{
+    let next = put_byte(out, at, 124);
+    put_padded(out, next, 5, a.cylinder * 1000 + a.side * 100 + a.sector)
+}
+
+// "Refused counts print `!17` or `!18` in place of blocks."
+fn put_count(out: &mut [u8], at: usize, count: Counted) -> usize
+    requires { ⌜ at < 16777216 ⌝ }
+    ensures { λ r. ⌜ Puts (now (out .entry)) (now (out .exit)) at r (bar (countShown count)) × (r ≤ at + 22) ⌝ }
+{
+    match count {
+        Counted::Count(n) => put_amount(out, at, n),
+        Counted::Uncounted(r) => {
+            let next = put_character(out, at, 33);
+            put_number(out, next, wide(r.number))
+        }
+    }
+}
+
+fn put_first(out: &mut [u8], at: usize, slot: u64, h: &[u8]) -> usize
+    requires { ⌜ (at < 8388608) × (length (now h) ≡ 128) ⌝ }
+    ensures { λ r. ⌜ Puts (now (out .entry)) (now (out .exit)) at r (firstFields slot (now (h .entry))) × (r ≤ at + 50) ⌝ }
+{
+    let bar = put_number(out, at, slot);
+    let name = put_byte(out, bar, 124);
+    let level = put_bytes(out, name, &h[5..22]);
+    let format = put_character(out, level, level_shown(h));
+    let blocked = put_character(out, format, format_shown(h));
+    put_character(out, blocked, blocked_shown(h))
+}
+
+fn put_lengths(out: &mut [u8], at: usize, h: &[u8]) -> usize
+    requires { ⌜ (at < 8388608) × (length (now h) ≡ 128) ⌝ }
+    ensures { λ r. ⌜ Puts (now (out .entry)) (now (out .exit)) at r (lengthFields (now (h .entry))) × (r ≤ at + 42) ⌝ }
+{
+    let next = put_amount(out, at, block_length(h));
+    put_amount(out, next, record_length(h))
+}
+
+fn put_extent(out: &mut [u8], at: usize, h: &[u8]) -> usize
+    requires { ⌜ (at < 8388608) × (length (now h) ≡ 128) ⌝ }
+    ensures { λ r. ⌜ Puts (now (out .entry)) (now (out .exit)) at r (extentFields (now (h .entry))) × (r ≤ at + 12) ⌝ }
+{
+    let next = put_address(out, at, start_of(h));
+    put_address(out, next, end_of(h))
+}
+
+fn put_last(out: &mut [u8], at: usize, count: Counted, h: &[u8]) -> usize
+    requires { ⌜ (at < 8388608) × (length (now h) ≡ 128) ⌝ }
+    ensures { λ r. ⌜ Puts (now (out .entry)) (now (out .exit)) at r (lastFields count (now (h .entry))) × (r ≤ at + 44) ⌝ }
+{
+    let next = put_count(out, at, count);
+    let end = put_amount(out, next, unused_count(h));
+    put_byte(out, end, 10)
+}
+
+// "Another level shows `?` but for slot, level, start, end."
+pub fn other_line(out: &mut [u8], at: usize, slot: u64, h: &[u8]) -> usize
+    requires { ⌜ (at < 4194304) × (length (now h) ≡ 128) ⌝ }
+    ensures { λ r. ⌜ Puts (now (out .entry)) (now (out .exit)) at r (otherLine slot (now (h .entry))) × (r ≤ at + 60) ⌝ }
+{
+    let name = put_number(out, at, slot);
+    let level = put_bytes(out, name, b"|?|");
+    let format = put_byte(out, level, h[43]);
+    let start = put_bytes(out, format, b"|?|?|?|?");
+    let blocks = put_extent(out, start, h);
+    put_bytes(out, blocks, b"|?|?\n")
+}
+
+// "A refused volume prints one line: `REFUSED`, number and each place, one space between."
+pub fn refused_line(out: &mut [u8], at: usize, r: Refusal) -> usize
+    requires { ⌜ at < 4194304 ⌝ }
+    ensures { λ e. ⌜ Puts (now (out .entry)) (now (out .exit)) at e (refusedLine r) × (e ≤ at + 90) ⌝ }
+{
+    let first = put_named(out, at, b"REFUSED ", wide(r.number));
+    let second = put_named(out, first, b" ", r.first);
+    if r.number == 10 {
+        let end = put_named(out, second, b" ", r.second);
+        return put_byte(out, end, 10);
+    }
+    put_byte(out, second, 10)
+}

@@ -1,0 +1,2 @@
+-- The numbers of labels without a fault fit
+pub mod Laws

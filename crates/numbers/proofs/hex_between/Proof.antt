@@ -1,0 +1,20 @@
+-- `hex_between` meets its contract.
+-- Assumes nothing.
+use borrow.Author.Needs.{needs}
+use Rattle.numbers.proofs.hex_between.Statement.{statement}
+use Rattle.numbers.proofs.hex_between.Tie as tie
+
+all-of-requires : tie.Need-all-of-requires
+all-of-requires c κs = search needs
+
+hex-2-requires : tie.Need-hex-2-requires
+hex-2-requires c κs = search needs
+
+in-range-requires : tie.Need-in-range-requires
+in-range-requires c κs = search needs
+
+returns : tie.Need-returns
+returns c = cc
+
+pub hex-between-spec : {M : Type 1} → statement M
+hex-between-spec = tie.close (tie.spec all-of-requires hex-2-requires in-range-requires returns)

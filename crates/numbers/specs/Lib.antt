@@ -1,0 +1,2 @@
+-- A volume's numbers before and after ERMAP
+pub mod Numbers

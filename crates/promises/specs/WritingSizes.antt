@@ -1,0 +1,65 @@
+-- How large the numbers in a write's answer can be: the blocks written are blocks of the extent. Only the place of 26 (a record of the list lent) and of 27
+-- (the blocks that the list would need) grow with what is lent.
+-- Assumes nothing.
+use Prim.Native.Nat.{ℕ, _^_, _<_, _≤_}
+use mathlib.Core.Path.{_≡_, refl, sym, ap, subst}
+use mathlib.Core.List.{List}
+use native.Mathlib.Omega.{arith}
+use Rattle.standard.specs.Layout.{labelAt}
+use Rattle.standard.specs.Refusals.{refuse}
+use Rattle.standard.specs.Judgement.{judged}
+use Rattle.standard.specs.Writing.{needed, writeList, written, imageAfter}
+use Rattle.standard.specs.declared.Geometry.{Geometry}
+use Rattle.standard.specs.declared.Refusal.{Refusal}
+use Rattle.standard.specs.declared.Judged.{Judged}
+use Rattle.standard.specs.declared.Judged.the-variants.{Refused, Volume}
+use Rattle.standard.specs.declared.Written.the-variants.{Unwritten, Blocks}
+use Rattle.promises.specs.Basics.{never}
+use Rattle.promises.specs.Refusing.{first-order, volume-stops, write-first, accepted-write}
+use Rattle.promises.specs.PlacesNamed.{given-exactly, place-26}
+use Rattle.promises.specs.WritingPromises.{answers, counts}
+use Rattle.promises.specs.Sizes.{Small, small-one, small-given, by-order, by-none, labelled, thirteen-small, names-slot, wrong-small, volume-small, count-few}
+
+-- a refusal with one place that has room is small
+one-small : (number place : ℕ) (r : Refusal) → 1 ≤ number → number ≤ 27 → r ≡ refuse number place → r .first < 2 ^ 32 → Small r
+one-small number place r l m e h =
+    let p : r .first ≡ place = ap (λ (q : Refusal). q .first) e in
+    subst Small (sym e) (small-one number place l m (omega arith))
+
+module _ (image : List ℕ) (slot : ℕ) (bodies lengths : List ℕ) where
+  on-volume : (g : Geometry) → judged image ≡ Volume g → (r : Refusal) → written image slot bodies lengths ≡ Unwritten r → r .first < 2 ^ 32 → Small r
+  on-volume g j r w h =
+      by-order _ _ r (first-order (writeList g image slot bodies lengths) r (write-first image g j slot bodies lengths r .0 w)) (thirteen-small image g j slot r)
+      (λ at h14. let l = labelled image g j slot at in
+      by-order _ _ r h14 (names-slot image g j slot l 14 (omega arith) (omega arith) _ r)
+      (λ _ h15. by-order _ _ r h15 (names-slot image g j slot l 15 (omega arith) (omega arith) _ r)
+      (λ _ h16. by-order _ _ r h16 (names-slot image g j slot l 16 (omega arith) (omega arith) _ r)
+      (λ _ h24. by-order _ _ r h24 (names-slot image g j slot l 24 (omega arith) (omega arith) _ r)
+      (λ _ h17. by-order _ _ r h17 (wrong-small image g j slot l r)
+      (λ _ h25. by-order _ _ r h25 (small-given _ _ r (small-one 25 0 (omega arith) (omega arith) (omega arith)))
+      (λ _ h26. by-order _ _ r h26
+      (λ e. one-small 26 _ r (omega arith) (omega arith) (place-26 (labelAt g image slot) 0 lengths r .0 e .is-so .1) h)
+      (λ _ h27. by-order _ _ r h27 (λ e. one-small 27 _ r (omega arith) (omega arith) (given-exactly _ _ r .0 e .1) h)
+      (λ _ none. by-none r none)))))))))
+
+  pub write-small : (r : Refusal) → written image slot bodies lengths ≡ Unwritten r → r .first < 2 ^ 32 → Small r
+  write-small r w h = on (judged image) refl
+    where
+      on : (v : Judged) → judged image ≡ v → Small r
+      on (Refused q) j =
+          let e = volume-stops image q j .5 slot bodies lengths in
+          let same : q ≡ r = cc in
+          subst Small same (volume-small image q j)
+      on (Volume g) j = on-volume g j r w h
+
+  pub write-few : (n : ℕ) → written image slot bodies lengths ≡ Blocks n → n ≤ 4992
+  write-few n w = on (judged image) refl
+    where
+      on : (v : Judged) → judged image ≡ v → n ≤ 4992
+      on (Refused q) j = let e = volume-stops image q j .5 slot bodies lengths in never (cc)
+      on (Volume g) j =
+          let passed = accepted-write image g j slot bodies lengths n w in
+          let e = answers image g slot bodies lengths j passed in
+          let same : needed (labelAt g image slot) bodies lengths ≡ n = cc in
+          let c = counts image g slot bodies lengths j passed in
+          omega (arith, count-few (imageAfter image slot bodies lengths) slot (needed (labelAt g image slot) bodies lengths) c)
