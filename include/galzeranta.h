@@ -2,7 +2,8 @@
  * Galzeranta: exchange diskettes of GOST 28081-89 as files. The library's C side.
  *
  * Link libgalzeranta.a ('rt staticlib galzeranta'; x86-64, System V calls). This header includes nothing and asks for no C library, so that a kernel
- * module takes it as it is: galz_u8 and galz_u64 are the types that kernels know as u8 and u64.
+ * module takes it as it is: galz_u8 and galz_u64 are the types that kernels know as u8 and u64. The archive wants memset; it uses SSE registers and the
+ * red zone, which a kernel has to allow around a call.
  *
  * A slice is a pointer and the count of its elements. Every call takes any bytes, of any length, and any numbers: nothing has to be tested first, and
  * nothing is kept after the call. A pointer of a slice is never NULL, not even where the count is 0. No call here changes a byte that it is lent.

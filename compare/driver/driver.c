@@ -5,7 +5,7 @@
  * is 0 or empty. Numbers have 8 bytes, the lowest first. The first string is the image.
  *
  * An answer: the number that the call returned; a byte that says what has changed of the lent bytes (1, 2, 4 for the strings; 128 if a byte before or
- * behind one); then each string that has changed, as it is now.
+ * behind one; 64 if the parts that the header's functions give do not make the number again); then each string that has changed, as it is now.
  *
  * It includes no header but the library's own, so that a compiler without a C library's headers builds it.
  */
@@ -18,7 +18,7 @@ long write(int file, const void *bytes, unsigned long count);
 void *malloc(unsigned long size);
 void free(void *room);
 
-enum { STRINGS = 3, NUMBERS = 4, AROUND = 64, FILL = 0xA5, FAR = 128 };
+enum { STRINGS = 3, NUMBERS = 4, AROUND = 64, FILL = 0xA5, PARTS = 64, FAR = 128 };
 
 /* a lent string: room with filled bytes around it, and a copy */
 struct lent {
@@ -31,8 +31,23 @@ static u64 call_find(struct lent *s, u64 *n) { (void)n; return galz_find(s[0].by
 static u64 call_count(struct lent *s, u64 *n) { return galz_count(s[0].bytes, s[0].length, n[0]); }
 static u64 call_free(struct lent *s, u64 *n) { (void)n; return galz_free(s[0].bytes, s[0].length); }
 
-/* the calls by their numbers, which src/bin/driven.rs knows too */
-static u64 (*const calls[])(struct lent *, u64 *) = { call_judge, call_find, call_count, call_free };
+/* the number again, from the parts that the header's functions give */
+static u64 refusal_again(u64 a) { return (u64)galz_code(a) << 56 | galz_first(a) << 24 | galz_second(a) << 4 | galz_third(a); }
+static u64 found_again(u64 a) { return galz_slot(a) << 24 | galz_offset(a); }
+static u64 number_again(u64 a) { return galz_number(a); }
+static u64 volume_again(u64 a)
+{
+	if (galz_record_bytes(a) != 128u << galz_size_code(a))
+		return ~a;
+	return galz_cylinders(a) | (u64)galz_index_sectors(a) << 8 | (u64)galz_sectors(a) << 16 | (u64)galz_size_code(a) << 24 | (u64)galz_sides(a) << 28 |
+	       (u64)galz_defect_1(a) << 32 | (u64)galz_defect_2(a) << 40;
+}
+
+/* the calls by their numbers, which src/drive.rs knows too */
+static const struct {
+	u64 (*call)(struct lent *, u64 *);
+	u64 (*again)(u64);
+} calls[] = { { call_judge, volume_again }, { call_find, found_again }, { call_count, number_again }, { call_free, number_again } };
 
 /* all so many bytes: 1; the input ended before the first: 0; in the midst: -1 */
 static int take(void *to, u64 count)
@@ -109,12 +124,12 @@ static int has_changed_around(const struct lent *lent)
 	return 0;
 }
 
-static int answer(u64 returned, struct lent *lent)
+static int answer(u64 returned, u64 again, struct lent *lent)
 {
 	u8 head[9];
 	for (int i = 0; i < 8; i++)
 		head[i] = (u8)(returned >> 8 * i);
-	head[8] = 0;
+	head[8] = again == returned ? 0 : PARTS;
 	for (int i = 0; i < STRINGS; i++) {
 		if (has_changed(&lent[i]))
 			head[8] |= (u8)(1 << i);
@@ -145,7 +160,9 @@ static int serve(u64 turn)
 	for (int i = 0; i < STRINGS; i++)
 		if (take_lent(&lent[i], i == 2 ? 0 : turn + (u64)i) != 1)
 			return -1;
-	if (answer(calls[call](lent, n), lent) != 1)
+	u64 returned = calls[call].call(lent, n);
+	u64 again = galz_done(returned) ? calls[call].again(returned) : refusal_again(returned);
+	if (answer(returned, again, lent) != 1)
 		return -1;
 	for (int i = 0; i < STRINGS; i++) {
 		free(lent[i].room);

@@ -11,6 +11,9 @@ pub const STRINGS: usize = 3;
 /// A byte before or behind a lent string has changed.
 const AROUND: u8 = 128;
 
+/// The parts that the C header gives are not those of the number.
+const PARTS: u8 = 64;
+
 /// A request as the driver reads it.
 struct Request {
     number: u8,
@@ -25,6 +28,8 @@ pub struct Outcome {
     pub lent: [Vec<u8>; STRINGS],
     /// Bytes that were not lent have changed.
     pub around: bool,
+    /// The functions of the C header take the number apart wrongly.
+    pub parts: bool,
 }
 
 /// The request of a call that the driver knows.
@@ -58,6 +63,7 @@ pub fn expected(image: &[u8], call: &Call) -> Option<Outcome> {
         returned: said.packed,
         lent: [said.image, second, third],
         around: false,
+        parts: false,
     })
 }
 
@@ -110,6 +116,7 @@ impl Driver {
             returned: u64::from_le_bytes(returned),
             lent,
             around: changed & AROUND != 0,
+            parts: changed & PARTS != 0,
         })
     }
 
@@ -180,8 +187,8 @@ impl Request {
 
 /// Answers requests as a driver does, from the independent program, till the
 /// input ends. Every answer whose turn `wrong` divides is wrong, in turn in
-/// the number, in a lent byte and in a byte that was not lent. It serves the
-/// tests of the comparison itself.
+/// the number, in a lent byte, in a byte that was not lent and in the header.
+/// It serves the tests of the comparison itself.
 pub fn serve(input: &mut impl Read, output: &mut impl Write, wrong: usize) -> io::Result<()> {
     let mut turn = 0;
     while let Some(request) = Request::read(input)? {
@@ -190,9 +197,10 @@ pub fn serve(input: &mut impl Read, output: &mut impl Write, wrong: usize) -> io
         let mut reply = said.packed.to_le_bytes().to_vec();
         reply.push(0);
         if wrong > 0 && turn % wrong == 0 {
-            match turn / wrong % 3 {
+            match turn / wrong % 4 {
                 0 => reply[0] ^= 1,
                 1 => reply[8] = AROUND,
+                2 => reply[8] = PARTS,
                 _ => {
                     reply[8] = 1;
                     reply.extend(request.lent[0].iter().map(|byte| !byte));

@@ -40,6 +40,7 @@ fn every_wrong_answer_is_found_and_told() {
     assert_eq!(text.matches("DIFFERENT: seed 28081, ").count(), 10);
     assert!(text.contains("; the image changed\n"));
     assert!(text.contains("; bytes that were not lent changed\n"));
+    assert!(text.contains("; the header takes it apart wrongly\n"));
     let tally = text.lines().last().expect("a tally");
     let numbers: Vec<usize> = tally.split(' ').filter_map(|w| w.parse().ok()).collect();
     assert_eq!(numbers[1], (numbers[0] + numbers[1]) / 1000);

@@ -210,6 +210,9 @@ fn said(outcome: &Outcome, case: &Case) -> String {
     if outcome.lent[0] != case.image {
         text += "; the image changed";
     }
+    if outcome.parts {
+        text += "; the header takes it apart wrongly";
+    }
     if outcome.around {
         text += "; bytes that were not lent changed";
     }

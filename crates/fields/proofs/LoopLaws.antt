@@ -11,6 +11,7 @@ use borrow.Author.Tests.{eq-eqb, ne-eqb, leb-true, not-true, not-false}
 use lib.Dec.{eqb, leb}
 use lib.ListN.{length, drop, getD, drop-of-length-le}
 use lib.Seq.{drop-cons}
+use Rattle.fields.proofs.CharacterLaws.{and-right}
 use Rattle.standard.specs.Characters.{every, same, isDigit, digitValue, numberFrom}
 
 module _ (test : ℕ → Bool) (s : List ℕ) (i : ℕ) where
@@ -69,7 +70,3 @@ bound-more n d i h k = rw (add-one) (omega (arith, pow-suc 10 i))
 pub digit-most : (c : ℕ) → isDigit c ≡ true → digitValue c < 10
 unfolding isDigit digitValue
 digit-most c h = omega (arith, leb-true c 57 (and-right (leb 48 c) (leb c 57) h))
-  where
-    and-right : (a b : Bool) → (a && b) ≡ true → b ≡ true
-    and-right true b h = h
-    and-right false b h = cc

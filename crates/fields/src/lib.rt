@@ -1,10 +1,10 @@
 // The characters and the numbers of a label's fields. All functions serve the layers above (inner): a `requires` states a field's width, or a bound that
 // the contracts of the callers give.
 use standard::Address;
+use standard::FiveDigits;
 use standard::Geometry;
 use standard::byte_at;
 use standard::digit;
-use standard::five_digits;
 use standard::is_digit;
 use standard::wide;
 ghost use mathlib.Core.Path.{_≡_};
@@ -38,11 +38,17 @@ pub fn if_so(test: bool, part: bool) -> bool
     !test | part
 }
 
-// "The a-set (house reading): bytes hex 20-22, 25-3F, 41-5A, 5F."
+// "The a-set (house reading): bytes hex 20-22, 25-3F, 41-5A, 5F." That is 20-5F but for seven, which is one look at a row of bits.
 pub fn in_a_set(c: u64) -> bool
     ensures { λ r. ⌜ r ≡ aSet c ⌝ }
 {
-    in_range(32, 34, c) | in_range(37, 63, c) | in_range(65, 90, c) | (c == 95)
+    if c < 32 {
+        return false;
+    }
+    if 95 < c {
+        return false;
+    }
+    !((c == 35) | (c == 36) | (c == 64) | (c == 91) | (c == 92) | (c == 93) | (c == 94))
 }
 
 // "Hex digits are 0-9, A-F."
@@ -81,8 +87,6 @@ pub fn one_of_4(c: u64, w: u64, x: u64, y: u64, z: u64) -> bool
 pub enum Class {
     Aset,
     Space,
-    Digit,
-    Hex,
 }
 
 pub fn in_class(t: Class, c: u64) -> bool
@@ -91,8 +95,6 @@ pub fn in_class(t: Class, c: u64) -> bool
     match t {
         Class::Aset => in_a_set(c),
         Class::Space => c == 32,
-        Class::Digit => is_digit(c),
-        Class::Hex => is_hex(c),
     }
 }
 
@@ -307,8 +309,11 @@ pub fn rank_of(g: Geometry, a: Address) -> u64
 pub fn address_rank(g: Geometry, f: &[u8]) -> Perhaps
     ensures { λ r. ⌜ r ≡ perhaps (isAddress g (now (f .entry))) (rank g (addressIn (now (f .entry)))) ⌝ }
 {
-    let a = Address::spelled(f);
-    if !(five_digits(f) & is_legal(g, a)) {
+    let read = Address::read(f);
+    let FiveDigits::Digits(a) = read else {
+        return Perhaps::Nothing;
+    };
+    if !is_legal(g, a) {
         return Perhaps::Nothing;
     }
     Perhaps::Number(rank_of(g, a))

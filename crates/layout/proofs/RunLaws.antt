@@ -1,48 +1,98 @@
 -- Refusal 6 by runs: a walk at equal distances finds the first sector whose kind is none of its three.
 -- Assumes nothing.
-use Prim.Native.Nat.{ℕ, zero, suc, _+_, _-_, _*_, _<_, _≤_}
+use Prim.Native.Nat.{ℕ, zero, suc, _+_, _-_, _*_, _/_, _<_, _≤_}
 use mathlib.Core.Path.{_≡_, refl, sym, ap, _∙_}
 use mathlib.Core.Bool.{Bool, true, false, not, cond}
 use mathlib.Core.List.{List}
 use lib.ListN.{length, getD}
-use lib.Dec.{ltb}
-use native.Mathlib.Numerals.{add-one}
 use native.Mathlib.Omega.{arith}
-use borrow.Author.Tests.{lt-ltb, le-ltb, not-true, not-false}
+use native.Mathlib.Nat.{mul-le-mul-right, div-eq-of-eq-mul-left}
+use borrow.Author.Tests.{not-true, not-false}
 use Rattle.standard.specs.Layout.{indexSectors, sectorCount, imageLength, kAt, kindOffset, kindAt, validMark, incorrectMark, checkFailed}
 use Rattle.standard.specs.Refusals.{refuse}
 use Rattle.standard.specs.Judgement.{legalKind, kindsFrom, refusal6}
 use Rattle.standard.specs.declared.Geometry.{Geometry}
 use Rattle.standard.specs.declared.Checked.{Checked}
 use Rattle.standard.specs.declared.Checked.the-variants.{Passed, Stopped}
-use Rattle.promises.specs.Basics.{by-test}
+use Rattle.promises.specs.Basics.{either, lt-or-le, by-test}
 use Rattle.layout.specs.Runs.{kindOf, legalRun}
 use Rattle.layout.proofs.Laws.{offset-first, offset-later, k-first, k-later}
 
--- one turn of the walk, and its end: `n` sectors in all, `left` of them left
+-- the walk stands at `at`, with `left` of n sectors left
+pub record Walk (image : List ℕ) (size k n first at : ℕ) : Type 0 where
+  pub left : ℕ
+  pub few : left ≤ n
+  pub reach : at + left * size ≡ first + n * size
+  pub same : legalRun image size k n first ≡ n - left + legalRun image size k left at
+
+share : (m l size : ℕ) → (m + l) * size ≡ m * size + l * size
+share m l size = omega arith
+
+one-turn : (left size : ℕ) → 0 < left → left * size ≡ size + (left - 1) * size
+one-turn left size h =
+    let e : left ≡ 1 + (left - 1) = omega arith in
+    ap (λ (x : ℕ). x * size) e ∙ share 1 (left - 1) size ∙ ap (λ (x : ℕ). x + (left - 1) * size) (omega arith)
+
 module _ (image : List ℕ) (size k : ℕ) where
   run-go : (left m at : ℕ) → left ≡ suc m → legalRun image size k left at ≡ cond (kindOf k (getD image at 0)) (suc (legalRun image size k m (at + size))) 0
   unfolding legalRun
   run-go left m at e = rw e
 
-  pub run-more : (left at : ℕ) → 0 < left → not (kindOf k (getD image at 0)) ≡ false
-      → legalRun image size k left at ≡ suc (legalRun image size k (left - 1) (at + size))
-  run-more left at h t = run-go left (left - 1) at (omega arith)
-      ∙ ap (λ (b : Bool). cond b (suc (legalRun image size k (left - 1) (at + size))) 0) (not-false (kindOf k (getD image at 0)) t)
+  run-by : (t : Bool) (left at : ℕ) → 0 < left → kindOf k (getD image at 0) ≡ t
+      → legalRun image size k left at ≡ cond t (suc (legalRun image size k (left - 1) (at + size))) 0
+  run-by t left at h e =
+      run-go left (left - 1) at (omega arith) ∙ ap (λ (b : Bool). cond b (suc (legalRun image size k (left - 1) (at + size))) 0) e
 
-  pub run-stop : (left at : ℕ) → 0 < left → not (kindOf k (getD image at 0)) ≡ true → legalRun image size k left at ≡ 0
-  run-stop left at h t = run-go left (left - 1) at (omega arith)
-      ∙ ap (λ (b : Bool). cond b (suc (legalRun image size k (left - 1) (at + size))) 0) (not-true (kindOf k (getD image at 0)) t)
-
-  pub run-end : (left at : ℕ) → left ≤ 0 → legalRun image size k left at ≡ 0
+  run-none : (at : ℕ) → legalRun image size k 0 at ≡ 0
   unfolding legalRun
-  run-end left at h = let e : left ≡ 0 = omega arith in rw e
+  run-none at = refl
 
-pub one-turn : (left size : ℕ) → 0 < left → left * size ≡ size + (left - 1) * size
-one-turn left size h = go (left - 1) (omega arith)
-  where
-    go : (m : ℕ) → left ≡ suc m → left * size ≡ size + m * size
-    go m e = rw e (omega arith)
+  module _ (n first : ℕ) where
+    pub walk-start : Walk image size k n first first
+    walk-start = record { left = n; few = omega arith; reach = refl; same = omega arith }
+
+    module _ (at : ℕ) (w : Walk image size k n first at) where
+      passed : at ≡ first + (n - w .left) * size
+      passed =
+          let e : n ≡ (n - w .left) + w .left = omega (arith, w .few) in
+          omega (arith, w .reach, ap (λ (x : ℕ). x * size) e, share (n - w .left) (w .left) size)
+
+      pub walk-ends : 1 ≤ size → first + n * size ≤ at → at ≡ first + legalRun image size k n first * size
+      walk-ends l h =
+          either (lt-or-le 0 (w .left))
+          (λ (q : 0 < w .left). absurd (omega (arith, w .reach, one-turn (w .left) size q)))
+          (λ (q : w .left ≤ 0).
+          let z : w .left ≡ 0 = omega arith in
+          let f = w .same ∙ ap (λ (x : ℕ). n - x + legalRun image size k x at) z in
+          let r : legalRun image size k n first ≡ n = omega (arith, f, run-none at) in
+          omega (arith, w .reach, ap (λ (x : ℕ). x * size) z, ap (λ (x : ℕ). x * size) r))
+
+      module _ (h : at < first + n * size) where
+        some-left : 0 < w .left
+        some-left =
+            either (lt-or-le 0 (w .left)) (λ (q : 0 < w .left). q)
+            (λ (q : w .left ≤ 0).
+            let z : w .left ≡ 0 = omega arith in
+            absurd (omega (arith, w .reach, ap (λ (x : ℕ). x * size) z)))
+
+        pub walk-fits : at + size ≤ first + n * size
+        walk-fits = omega (arith, w .reach, one-turn (w .left) size some-left)
+
+        pub walk-on : not (kindOf k (getD image at 0)) ≡ false → Walk image size k n first (at + size)
+        walk-on t =
+            let r = run-by true (w .left) at some-left (not-false (kindOf k (getD image at 0)) t) in
+            record {
+              left = w .left - 1;
+              few = omega (arith, w .few);
+              reach = omega (arith, w .reach, one-turn (w .left) size some-left);
+              same = omega (arith, w .same, w .few, r, some-left);
+            }
+
+        pub walk-stops : not (kindOf k (getD image at 0)) ≡ true → at ≡ first + legalRun image size k n first * size
+        walk-stops t =
+            let r = run-by false (w .left) at some-left (not-true (kindOf k (getD image at 0)) t) in
+            let e : legalRun image size k n first ≡ n - w .left = omega (arith, w .same, r) in
+            passed ∙ ap (λ (x : ℕ). first + x * size) (sym e)
 
 -- sectors from `ordinal` on whose kinds stand at `at`, `at + size`, .. and are those of one k
 module _ (g : Geometry) (image : List ℕ) (size k : ℕ) where
@@ -165,27 +215,49 @@ module _ (g : Geometry) (image : List ℕ) where
   kinds-none i j e l f m =
       sym (behind i e l ∙ run-passes g image (g .P + 1) (g .k) later 0 (indexSectors g * 129) (indexSectors g) run-behind (omega arith))
 
--- as the code has them: n sectors in the index cylinder, m behind it, of p + 1 bytes and with k
+-- as the code has them: n sectors in the index cylinder, m behind it, of p + 1 bytes and with k; i and j are where the walks end
 module _ (g : Geometry) (image : List ℕ) (n : ℕ) (en : n ≡ indexSectors g) where
+  abbrev foundFirst : ℕ
+  foundFirst = legalRun image 129 0 n 0
+
+  first-is : foundFirst ≡ legalRun image 129 0 (indexSectors g) 0
+  first-is = ap (λ (x : ℕ). legalRun image 129 0 x 0) en
+
   pub first-fits : length image ≡ imageLength g → 0 + n * 129 ≤ length image
   unfolding imageLength
   first-fits h = omega (arith, h, en)
 
-  pub stops-first : (i : ℕ) → i ≡ legalRun image 129 0 n 0 → i < n → Stopped (refuse 6 i) ≡ refusal6 g image
-  stops-first i e l = kinds-first g image i (e ∙ ap (λ (x : ℕ). legalRun image 129 0 x 0) en) (omega arith)
+  pub stops-first : (i : ℕ) → i ≡ 0 + foundFirst * 129 → i < n * 129 → Stopped (refuse 6 (i / 129)) ≡ refusal6 g image
+  stops-first i e l =
+      let q : i / 129 ≡ foundFirst = div-eq-of-eq-mul-left (omega arith) (omega arith) in
+      kinds-first g image (i / 129) (q ∙ first-is) (omega arith)
 
-  module _ (m p k : ℕ) (em : m ≡ later g image) (ep : p ≡ g .P) (ek : k ≡ g .k) where
-    pub behind-fits : length image ≡ imageLength g → n * 129 + m * (p + 1) ≤ length image
+  module _ (m p k : ℕ) (em : m ≡ later g image) (ep : p ≡ g .P) (ek : k ≡ g .k) (whole : length image ≡ imageLength g) where
+    abbrev behindThem : ℕ
+    behindThem = legalRun image (p + 1) k m (n * 129)
+
+    all : n * 129 + m * (p + 1) ≡ length image
     unfolding imageLength
-    behind-fits h = rw (en, em, ep) (omega (arith, h))
+    all = rw (en, em, ep) (sym whole)
 
-    so : (j : ℕ) → j ≡ legalRun image (p + 1) k m (n * 129) → j ≡ foundBehind g image
-    so j e = e ∙ rw (en, em, ep, ek)
+    pub behind-fits : n * 129 + m * (p + 1) ≤ length image
+    behind-fits = omega (arith, all)
 
-    module _ (i j : ℕ) (ei : i ≡ legalRun image 129 0 n 0) (li : n ≤ i) (ej : j ≡ legalRun image (p + 1) k m (n * 129)) where
-      pub stops-behind : j < m → Stopped (refuse 6 (n + j)) ≡ refusal6 g image
+    behind-is : behindThem ≡ foundBehind g image
+    behind-is = rw (en, em, ep, ek)
+
+    module _ (i j : ℕ) (ei : i ≡ 0 + foundFirst * 129) (li : n * 129 ≤ i) (ej : j ≡ n * 129 + behindThem * (p + 1)) where
+      pub stops-behind : j < length image → Stopped (refuse 6 (n + (j - n * 129) / (p + 1))) ≡ refusal6 g image
       stops-behind l =
-          kinds-behind g image i j (n + j) (ei ∙ ap (λ (x : ℕ). legalRun image 129 0 x 0) en) (omega arith) (so j ej) (omega arith) (omega arith)
+          let q : (j - n * 129) / (p + 1) ≡ behindThem = div-eq-of-eq-mul-left (omega arith) (omega arith) in
+          kinds-behind g image foundFirst behindThem (n + (j - n * 129) / (p + 1)) first-is (omega arith) behind-is
+          (either (lt-or-le behindThem m) (λ (h : behindThem < m). omega arith)
+          (λ (h : m ≤ behindThem). absurd (omega (arith, mul-le-mul-right (p + 1) h, all))))
+          (omega (arith, q, en))
 
-      pub stops-nowhere : m ≤ j → Passed ≡ refusal6 g image
-      stops-nowhere l = kinds-none g image i j (ei ∙ ap (λ (x : ℕ). legalRun image 129 0 x 0) en) (omega arith) (so j ej) (omega arith)
+      pub stops-nowhere : length image ≤ j → Passed ≡ refusal6 g image
+      stops-nowhere l =
+          kinds-none g image foundFirst behindThem first-is (omega arith) behind-is
+          (either (lt-or-le behindThem m)
+          (λ (h : behindThem < m). absurd (omega (arith, mul-le-mul-right (p + 1) h, all)))
+          (λ (h : m ≤ behindThem). omega arith))

@@ -220,22 +220,20 @@ fn is_kind(k: u64, c: u64) -> bool
     c == 32 + k
 }
 
-// A walk over n sectors of one size: how many come before the first whose kind is none of the three.
-fn legal_run(image: &[u8], first: usize, size: usize, k: u64, n: u64) -> u64
+// A walk over n sectors of one size, by offsets alone: where the first stands whose kind is none of the three, or where the last one ends.
+fn legal_run(image: &[u8], first: usize, size: usize, k: u64, n: u64) -> usize
     requires { ⌜ (1 ≤ size) × (k < 256) × (first + n * size ≤ length (now image)) ⌝ }
-    ensures { λ r. ⌜ r ≡ legalRun (now (image .entry)) size k n first ⌝ }
+    ensures { λ r. ⌜ r ≡ first + legalRun (now (image .entry)) size k n first * size ⌝ }
 {
+    let end = first + n as usize * size;
     let mut at = first;
-    let mut left = n;
-    while 0 < left {
-        let c = wide(image[at]);
-        if !is_kind(k, c) {
-            return n - left;
+    while at < end {
+        if !is_kind(k, wide(image[at])) {
+            return at;
         }
         at += size;
-        left -= 1;
     }
-    n
+    at
 }
 
 // "a sector's kind not one of its three", "ordinal from 0": the index cylinder with k = 0, then all others with the k of VOL1.
@@ -244,16 +242,15 @@ pub fn kinds(g: Geometry, image: &[u8]) -> Checked
     ensures { λ r. ⌜ r ≡ refusal6 g (now (image .entry)) ⌝ }
 {
     let n = index_sectors(g);
-    let i = legal_run(image, 0, 129, 0, n);
-    if i < n {
-        return Checked::Stopped(no_kind(i));
-    }
-    let m = later_sectors(g);
-    let size = (wide16(g.P) + 1) as usize;
     let start = (n * 129) as usize;
-    let j = legal_run(image, start, size, wide(g.k), m);
-    if j < m {
-        return Checked::Stopped(no_kind(n + j));
+    let i = legal_run(image, 0, 129, 0, n);
+    if i < start {
+        return Checked::Stopped(no_kind((i / 129) as u64));
+    }
+    let size = (wide16(g.P) + 1) as usize;
+    let j = legal_run(image, start, size, wide(g.k), later_sectors(g));
+    if j < image.len() {
+        return Checked::Stopped(no_kind(n + ((j - start) / size) as u64));
     }
     Checked::Passed
 }

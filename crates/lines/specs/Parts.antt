@@ -1,11 +1,14 @@
 -- The parts that the lines of the listing are put together from.
 -- Assumes nothing.
 use Prim.Native.Nat.{ℕ}
+use mathlib.Core.Bool.{cond}
 use mathlib.Core.List.{List, [], _∷_, _++_}
 use Rattle.standard.specs.Characters.{bytes, byte, shown}
 use Rattle.standard.specs.Addresses.{fiveBytes}
 use Rattle.standard.specs.Labels.{level, nameOf, blockLength, recordLength, unusedCount, formatOf, startOf, endOf}
-use Rattle.standard.specs.Listing.{newline, levelShown, formatShown, blockedShown, countShown}
+use Rattle.standard.specs.Layout.{labelAt}
+use Rattle.standard.specs.Slots.{isLabel}
+use Rattle.standard.specs.Listing.{newline, levelShown, formatShown, blockedShown, countShown, labelLine}
 use Rattle.standard.specs.declared.Geometry.{Geometry}
 use Rattle.standard.specs.declared.Counted.{Counted}
 
@@ -31,3 +34,10 @@ extentFields h = bar (fiveBytes (startOf h)) ++ bar (fiveBytes (endOf h))
 
 unfoldable pub lastFields : Counted → List ℕ → List ℕ
 lastFields count h = bar (countShown count) ++ (bar (shown (unusedCount h)) ++ newline)
+
+unfoldable pub fieldsInARow : ℕ → List ℕ → Counted → List ℕ
+fieldsInARow slot h count = firstFields slot h ++ (lengthFields h ++ (extentFields h ++ lastFields count h))
+
+-- the line of a slot, if it has a label
+abbrev pub lineIn : Geometry → List ℕ → ℕ → List ℕ
+lineIn g image slot = cond (isLabel g image slot) (labelLine g image slot (labelAt g image slot)) []

@@ -1,31 +1,46 @@
 // The lines of the listing, put one after another into a lent buffer.
 use fields::wide16;
+use files::count_in;
+use index::is_label;
 use labels::block_length;
 use labels::end_of;
 use labels::is_blocked;
+use labels::known_level;
 use labels::level_of;
 use labels::record_length;
 use labels::start_of;
 use labels::unused_count;
+use layout::index_body;
+use layout::label_at;
+use layout::slot_count;
 use standard::Address;
 use standard::Counted;
 use standard::Geometry;
+use standard::Judged;
 use standard::Refusal;
 use standard::wide;
 use text::put_byte;
 use text::put_bytes;
 use text::put_number;
 use text::put_padded;
+use volume::free_in;
+use volume::judge;
+use volume::refusal_of;
 ghost use mathlib.Core.Path.{_≡_};
+ghost use mathlib.Core.Bool.{true};
 ghost use mathlib.Core.List.{[], _∷_, _++_};
 ghost use Prim.Native.Nat.{_+_, _<_, _≤_};
 ghost use lib.ListN.{length};
 ghost use Rattle.standard.specs.Characters.{shown};
 ghost use Rattle.standard.specs.Addresses.{fiveBytes};
 ghost use Rattle.standard.specs.Labels.{level, formatOf};
-ghost use Rattle.standard.specs.Listing.{levelShown, formatShown, blockedShown, countShown, refusedLine, otherLine};
+ghost use Rattle.standard.specs.Layout.{slotCount, labelAt};
+ghost use Rattle.standard.specs.Slots.{hasLabel};
+ghost use Rattle.standard.specs.Judgement.{judged};
+ghost use Rattle.standard.specs.Free.{freeRecords};
+ghost use Rattle.standard.specs.Listing.{volumeLine, levelShown, formatShown, blockedShown, countShown, refusedLine, otherLine, labelLine, linesFrom, listing};
 ghost use Rattle.text.specs.Laid.{Puts};
-ghost use Rattle.lines.specs.Parts.{bar, numbersShown, firstFields, lengthFields, extentFields, lastFields};
+ghost use Rattle.lines.specs.Parts.{bar, numbersShown, firstFields, lengthFields, extentFields, lastFields, fieldsInARow, lineIn};
 
 // A name and a number: ` L=5`.
 fn put_named(out: &mut [u8], at: usize, name: &[u8], n: u64) -> usize
@@ -184,4 +199,88 @@ pub fn refused_line(out: &mut [u8], at: usize, r: Refusal) -> usize
         return put_byte(out, end, 10);
     }
     put_byte(out, second, 10)
+}
+
+// "the volume line (name, numbers, free records)"
+fn volume_line(out: &mut [u8], at: usize, g: Geometry, image: &[u8], free: u64) -> usize
+    requires { ⌜ (at < 4194304) × (903 ≤ length (now image)) × (free ≡ freeRecords g (now image)) ⌝ }
+    ensures { λ r. ⌜ Puts (now (out .entry)) (now (out .exit)) at r (volumeLine g (now (image .entry))) × (r ≤ at + 190) ⌝ }
+{
+    let v = index_body(image, 7);
+    let name = put_bytes(out, at, b"VOLUME ");
+    let numbers = put_bytes(out, name, &v[4..10]);
+    let free_at = put_numbers(out, numbers, g);
+    let end = put_named(out, free_at, b" FREE=", free);
+    put_byte(out, end, 10)
+}
+
+// "one line per label: slot, name, level .., format .., `B` or `-`, B, R, start, end, blocks, U."
+fn known_line(out: &mut [u8], at: usize, slot: u64, h: &[u8], count: Counted) -> usize
+    requires { ⌜ (at < 4194304) × (length (now h) ≡ 128) ⌝ }
+    ensures { λ r. ⌜ Puts (now (out .entry)) (now (out .exit)) at r (fieldsInARow slot (now (h .entry)) count) × (r ≤ at + 148) ⌝ }
+{
+    let lengths = put_first(out, at, slot, h);
+    let extent = put_lengths(out, lengths, h);
+    let last = put_extent(out, extent, h);
+    put_last(out, last, count, h)
+}
+
+fn label_line(out: &mut [u8], at: usize, g: Geometry, image: &[u8], slot: u64) -> usize
+    requires { ⌜ (at < 4194304) × (judged (now image) ≡ Judged.Volume g) × (hasLabel g (now image) slot ≡ true) ⌝ }
+    ensures { λ r. ⌜ Puts (now (out .entry)) (now (out .exit)) at r (labelLine g (now (image .entry)) slot (labelAt g (now (image .entry)) slot)) × (r ≤ at + 148) ⌝ }
+{
+    let h = label_at(g, image, slot);
+    if !known_level(h) {
+        return other_line(out, at, slot, h);
+    }
+    known_line(out, at, slot, h, count_in(g, image, slot))
+}
+
+// A slot that has no label has no line.
+fn slot_line(out: &mut [u8], at: usize, g: Geometry, image: &[u8], slot: u64) -> usize
+    requires { ⌜ (at < 4194304) × (judged (now image) ≡ Judged.Volume g) × (1 ≤ slot) × (slot ≤ slotCount g) ⌝ }
+    ensures { λ r. ⌜ Puts (now (out .entry)) (now (out .exit)) at r (lineIn g (now (image .entry)) slot) × (r ≤ at + 148) ⌝ }
+{
+    if !is_label(g, image, slot) {
+        return at;
+    }
+    label_line(out, at, g, image, slot)
+}
+
+fn label_lines(out: &mut [u8], at: usize, g: Geometry, image: &[u8]) -> usize
+    requires { ⌜ (at < 1048576) × (judged (now image) ≡ Judged.Volume g) ⌝ }
+    ensures { λ r. ⌜ Puts (now (out .entry)) (now (out .exit)) at r (linesFrom g (now (image .entry)) (slotCount g) 1) × (r ≤ at + 6660) ⌝ }
+{
+    let n = slot_count(g);
+    let mut next = at;
+    let mut i = 0;
+    while i < n {
+        next = slot_line(out, next, g, image, i + 1);
+        i += 1;
+    }
+    next
+}
+
+// An accepted volume: its line, and a line for each label.
+fn volume_lines(out: &mut [u8], g: Geometry, image: &[u8]) -> usize
+    requires { ⌜ judged (now image) ≡ Judged.Volume g ⌝ }
+    ensures { λ r. ⌜ Puts (now (out .entry)) (now (out .exit)) 0 r (volumeLine g (now (image .entry)) ++ linesFrom g (now (image .entry)) (slotCount g) 1) × (r ≤ 8192) ⌝ }
+{
+    let next = volume_line(out, 0, g, image, free_in(g, image));
+    label_lines(out, next, g, image)
+}
+
+// The listing of an image, into a lent buffer: as much of the text as there is room for; every byte behind it stays. The answer is the text's length, so a buffer of
+// 8,192 bytes has room for all of it.
+pub fn list(image: &[u8], out: &mut [u8]) -> usize
+    ensures { λ r. ⌜ Puts (now (out .entry)) (now (out .exit)) 0 r (listing (now (image .entry))) × (r ≤ 8192) ⌝ }
+{
+    if 65536 < image.len() {
+        return put_bytes(out, 0, b"TOO LONG\n");
+    }
+    let j = judge(image);
+    let Judged::Volume(g) = j else {
+        return refused_line(out, 0, refusal_of(j));
+    };
+    volume_lines(out, g, image)
 }

@@ -4,7 +4,7 @@ use Prim.Native.Nat.{ℕ, _+_, _-_, _*_, _^_, _<_, _≤_}
 use mathlib.Core.Path.{_≡_, refl, sym, ap, _∙_}
 use mathlib.Core.Bool.{Bool, true, false, cond, not, _&&_, _||_}
 use mathlib.Core.List.{List, [], _∷_}
-use lib.Dec.{leb, ltb}
+use lib.Dec.{leb, eqb}
 use native.Mathlib.Omega.{arith}
 use borrow.Author.Tests.{le-leb, lt-leb, eq-eqb, ne-eqb}
 use Rattle.standard.specs.Characters.{at, field, every, isDigit, digits, digitValue, number, numberFrom, hex, spaces}
@@ -53,7 +53,14 @@ module _ (v : List ℕ) (r : ℕ) where
 pub size-is : (n k : ℕ) → n ≡ k → 128 * 2 ^ n ≡ 128 * 2 ^ k
 size-is n k e = ap (λ (x : ℕ). 128 * 2 ^ x) e
 
--- ERMAP: two digits are at most 99
+-- ERMAP: the exits of `is_cylinder`; two digits are at most 99
+module _ (f : List ℕ) where
+  pub no-cylinder : digits f ≡ false → false ≡ isCylinder f
+  no-cylinder d = rw d
+
+  pub cylinder-by-last : (r : Bool) → digits f ≡ true → r ≡ eqb (at f 3) 48 → r ≡ isCylinder f
+  cylinder-by-last r d e = rw d e
+
 two-most : (f : List ℕ) → digits f ≡ true → cylinderIn f ≤ 99
 unfolding every numberFrom
 two-most [] h = omega arith

@@ -1,12 +1,15 @@
 // VOL1 and ERMAP: which of their rules is broken, and the numbers that they give a volume. A label is the 128 bytes of its sector; all functions serve the
 // layers above (inner).
 use fields::Class;
+use fields::Perhaps;
 use fields::all_of;
+use fields::decimal_in;
 use fields::hex_1;
 use fields::hex_2;
 use fields::in_a_set;
 use fields::in_range;
 use fields::is;
+use fields::is_hex;
 use fields::minus;
 use fields::number_2;
 use fields::one_of_1;
@@ -84,14 +87,14 @@ fn hex_between(low: u64, high: u64, f: &[u8]) -> bool
     requires { ⌜ length (now f) ≡ 2 ⌝ }
     ensures { λ r. ⌜ r ≡ hexBetween low high (now (f .entry)) ⌝ }
 {
-    all_of(Class::Hex, f) & in_range(low, high, hex_2(f))
+    is_hex(wide(f[0])) & is_hex(wide(f[1])) & in_range(low, high, hex_2(f))
 }
 
 fn hex_digit_between(low: u64, high: u64, f: &[u8]) -> bool
     requires { ⌜ length (now f) ≡ 1 ⌝ }
     ensures { λ r. ⌜ r ≡ hexBetween low high (now (f .entry)) ⌝ }
 {
-    all_of(Class::Hex, f) & in_range(low, high, hex_1(f))
+    is_hex(wide(f[0])) & in_range(low, high, hex_1(f))
 }
 
 // The numbers of a VOL1 without a fault.
@@ -196,7 +199,11 @@ fn is_cylinder(f: &[u8]) -> bool
     requires { ⌜ length (now f) ≡ 3 ⌝ }
     ensures { λ r. ⌜ r ≡ isCylinder (now (f .entry)) ⌝ }
 {
-    all_of(Class::Digit, f) & is(wide(f[2]), 48)
+    let read = decimal_in(f);
+    let Perhaps::Number(_) = read else {
+        return false;
+    };
+    is(wide(f[2]), 48)
 }
 
 fn cylinder_in(f: &[u8]) -> u64

@@ -1,6 +1,2 @@
 -- The table by level
 pub mod Tables
--- Rules as numbers
-pub mod Parts
--- What the rows above have read
-pub mod Held

@@ -3,54 +3,36 @@
 // Each field is read once and each rule decided once, in the order of the table: where a row is reached, the rows above it hold. "A part of a rule that
 // reads another field is not applied while that field is itself at fault" so matters only where a field reads a higher one: 23 reads 40, 54 and 58 read 63.
 // The verdicts of 40 and 63 are made before those fields are judged, and handed on. All functions serve the layers above (inner).
-use fields::Class;
+use checks::Seen;
+use checks::block_in;
+use checks::blocked_right;
+use checks::data_end_right;
+use checks::end_right;
+use checks::expiry_right;
+use checks::format_right;
+use checks::is_other;
+use checks::name_right;
+use checks::record_in;
+use checks::spaces_or_date;
+use checks::unused_right;
 use fields::Perhaps;
 use fields::address_rank;
-use fields::all_of;
-use fields::decimal_in;
-use fields::if_so;
 use fields::in_a_set;
-use fields::in_range;
-use fields::is_legal;
-use fields::is_multiple;
-use fields::number_2;
-use fields::one_of_1;
 use fields::one_of_2;
 use fields::one_of_3;
-use fields::one_of_4;
-use fields::past_last;
-use fields::rank_of;
-use fields::same_as;
 use fields::spaces_or_number;
-use fields::times;
-use fields::wide16;
 use labels::is_hdr1;
 use labels::level_of;
-use standard::Address;
 use standard::Geometry;
-use standard::five_digits;
 use standard::wide;
 ghost use mathlib.Core.Path.{_≡_};
-ghost use mathlib.Core.Bool.{true, _||_};
-ghost use Prim.Native.Nat.{_≤_};
+ghost use mathlib.Core.Bool.{true};
 ghost use lib.ListN.{length, drop};
-ghost use Rattle.standard.specs.Characters.{bytes, at, same};
 ghost use Rattle.standard.specs.Addresses.{rank};
 ghost use Rattle.standard.specs.Rules.{lowestFault};
-ghost use Rattle.standard.specs.Labels.{level, blockLength, startOf, recordLength, rule6, rule23, rule29, rule35, rule40, rule44, rule54, rule58, rule63, rule75, spacesOrDate, labelFault};
-ghost use Rattle.fields.specs.Numbers.{perhaps};
+ghost use Rattle.standard.specs.Labels.{level, startOf, rule29, rule44, labelFault};
 ghost use Rattle.rules.specs.Tables.{otherRows, knownRows};
-ghost use Rattle.rules.specs.Parts.{isOther, formatRight, blockLeast, blockFits, blockedRight, blankOr, recordFits, unusedFits};
-ghost use Rattle.rules.specs.Held.{Held};
-
-// What the rows up to 40 have read: the level and its verdict, the format, B, the rank of the start.
-pub struct Seen {
-    pub level: u64,
-    pub right44: bool,
-    pub format: u64,
-    pub block: u64,
-    pub start: u64,
-}
+ghost use Rattle.checks.specs.Held.{Held};
 
 // The lowest position at fault, 0 for none.
 pub fn label_fault(g: Geometry, h: &[u8]) -> u64
@@ -66,13 +48,6 @@ pub fn label_fault(g: Geometry, h: &[u8]) -> u64
         return other_fault(g, h);
     }
     known_fault(g, h, c, right44)
-}
-
-// "space, 1, 2 or another a-character"
-fn is_other(c: u64, right44: bool) -> bool
-    ensures { λ r. ⌜ r ≡ isOther c right44 ⌝ }
-{
-    right44 & !((c == 32) | (c == 49) | (c == 50))
 }
 
 // "Another level has only 1-4, 29-33, 35-39 and 44 judged."
@@ -193,178 +168,4 @@ fn fault_from_64(g: Geometry, h: &[u8], start: u64) -> u64
         return 75;
     }
     0
-}
-
-// "6-22 a-set; levels space and 1 have spaces in 14-22." A space is in the a-set, so of such a level only 6-13 are asked for the rest of it.
-fn name_right(h: &[u8], c: u64) -> bool
-    requires { ⌜ (length (now h) ≡ 128) × (c ≡ level (now h)) ⌝ }
-    ensures { λ r. ⌜ r ≡ rule6 (now (h .entry)) ⌝ }
-{
-    if (c == 32) | (c == 49) {
-        if !all_of(Class::Space, &h[13..22]) {
-            return false;
-        }
-        return all_of(Class::Aset, &h[5..13]);
-    }
-    all_of(Class::Aset, &h[5..22])
-}
-
-// "35-39 end, not before start."
-fn end_right(g: Geometry, h: &[u8], start: u64) -> bool
-    requires { ⌜ (length (now h) ≡ 128) × (start ≡ rank g (startOf (now h))) × (rule29 g (now h) ≡ true) ⌝ }
-    ensures { λ r. ⌜ r ≡ rule35 g (now (h .entry)) ⌝ }
-{
-    let read = address_rank(g, &h[34..39]);
-    let Perhaps::Number(end) = read else {
-        return false;
-    };
-    !(end < start)
-}
-
-// "40 space or F (fixed), V, S; levels space and 1 fixed only."
-fn format_right(c: u64, f: u64) -> bool
-    ensures { λ r. ⌜ r ≡ formatRight c f ⌝ }
-{
-    one_of_4(f, 32, 70, 86, 83) & if_so((c == 32) | (c == 49), one_of_2(f, 32, 70))
-}
-
-// "23-27 block length B": the number, if the field is right. A part that reads 40 is not applied while 40 is at fault.
-fn block_in(g: Geometry, h: &[u8], c: u64, f: u64, right40: bool) -> Perhaps
-    requires { ⌜ (length (now h) ≡ 128) × (c ≡ level (now h)) × (f ≡ at (now h) 40) × (right40 ≡ rule40 (now h)) ⌝ }
-    ensures { λ r. ⌜ r ≡ perhaps (rule23 g (now (h .entry))) (blockLength (now (h .entry))) ⌝ }
-{
-    let read = decimal_in(&h[22..27]);
-    let Perhaps::Number(b) = read else {
-        return Perhaps::Nothing;
-    };
-    if !block_fits(g, c, f, right40, b) {
-        return Perhaps::Nothing;
-    }
-    Perhaps::Number(b)
-}
-
-// "at most D·P; above P a multiple of P; level space at most P; V and S at most 9,999 (house)."
-fn block_fits(g: Geometry, c: u64, f: u64, right40: bool, b: u64) -> bool
-    ensures { λ r. ⌜ r ≡ blockFits g c f right40 b ⌝ }
-{
-    let p = wide16(g.P);
-    let most = times(p, wide(g.D));
-    let long = one_of_1(f, 86) | one_of_1(f, 83);
-    block_least(f, right40, b)
-        & (b <= most)
-        & (!(p < b) | is_multiple(b, p))
-        & (!(c == 32) | (b <= p))
-        & (!right40 | (!long | (b <= 9999)))
-}
-
-// "at least 1, 4, 5 for F, V, S"
-fn block_least(f: u64, right40: bool, b: u64) -> bool
-    ensures { λ r. ⌜ r ≡ blockLeast f right40 b ⌝ }
-{
-    (!right40 | (!one_of_2(f, 32, 70) | (1 <= b)))
-        & (!right40 | (!one_of_1(f, 86) | (4 <= b)))
-        & (!right40 | (!one_of_1(f, 83) | (5 <= b)))
-}
-
-// "63 space, or B for blocked; S needs B; level space needs space." 40 is right.
-fn blocked_right(c: u64, f: u64, b: u64) -> bool
-    ensures { λ r. ⌜ r ≡ blockedRight c f b ⌝ }
-{
-    one_of_2(b, 32, 66) & (!one_of_1(f, 83) | (b == 66)) & (!(c == 32) | (b == 32))
-}
-
-// The number of a field that may be blank, if it is blank or has digits.
-fn blank_or(blank: u64, f: &[u8]) -> Perhaps
-    requires { ⌜ length (now f) ≤ 9 ⌝ }
-    ensures { λ r. ⌜ r ≡ blankOr blank (now (f .entry)) ⌝ }
-{
-    if all_of(Class::Space, f) {
-        return Perhaps::Number(blank);
-    }
-    decimal_in(f)
-}
-
-// "54-57 record length R; spaces mean R = B": the number, if the field is right.
-fn record_in(g: Geometry, h: &[u8], x: Seen, b: u64, right63: bool) -> Perhaps
-    requires { ⌜ (length (now h) ≡ 128) × Held g (now h) x × (b ≡ at (now h) 63) × (right63 ≡ rule63 (now h)) ⌝ }
-    ensures { λ r. ⌜ r ≡ perhaps (rule54 g (now (h .entry))) (recordLength (now (h .entry))) ⌝ }
-{
-    let read = blank_or(x.block, &h[53..57]);
-    let Perhaps::Number(r) = read else {
-        return Perhaps::Nothing;
-    };
-    if !record_fits(x.level, x.format, right63, b == 66, x.block, r) {
-        return Perhaps::Nothing;
-    }
-    Perhaps::Number(r)
-}
-
-// "F: 1 to B, equal to B if unblocked, else a divisor of B; level space R = B. V: 4 to B, RCW counted." A part that reads 63 is not applied while 63 is at
-// fault; 23 and 40 are right.
-fn record_fits(c: u64, f: u64, right63: bool, blocked: bool, b: u64, r: u64) -> bool
-    ensures { λ r′. ⌜ r′ ≡ recordFits c f right63 blocked b r ⌝ }
-{
-    let fixed = one_of_2(f, 32, 70);
-    (!fixed | in_range(1, b, r))
-        & (!right63 | (!(fixed & !blocked) | (r == b)))
-        & (!right63 | (!(fixed & blocked) | is_multiple(b, r)))
-        & (!(c == 32) | (r == b))
-        & (!one_of_1(f, 86) | in_range(4, b, r))
-}
-
-// "58-62 unused count U, spaces meaning 0, below B; 0 if unblocked; for F a multiple of R." 23, 40 and 54 are right.
-fn unused_right(g: Geometry, h: &[u8], x: Seen, b: u64, right63: bool, r: u64) -> bool
-    requires { ⌜ (length (now h) ≡ 128) × Held g (now h) x × (b ≡ at (now h) 63) × (right63 ≡ rule63 (now h)) × (r ≡ recordLength (now h)) × (rule54 g (now h) ≡ true) ⌝ }
-    ensures { λ r′. ⌜ r′ ≡ rule58 g (now (h .entry)) ⌝ }
-{
-    let read = blank_or(0, &h[57..62]);
-    let Perhaps::Number(u) = read else {
-        return false;
-    };
-    unused_fits(x.format, right63, b == 66, x.block, r, u)
-}
-
-fn unused_fits(f: u64, right63: bool, blocked: bool, b: u64, r: u64, u: u64) -> bool
-    ensures { λ r′. ⌜ r′ ≡ unusedFits f right63 blocked b r u ⌝ }
-{
-    (u < b) & (!right63 | (blocked | (u == 0))) & (!one_of_2(f, 32, 70) | is_multiple(u, r))
-}
-
-// "48-53 spaces or YYMMDD (month 01-12, day 01-31)"
-fn spaces_or_date(f: &[u8]) -> bool
-    requires { ⌜ length (now f) ≡ 6 ⌝ }
-    ensures { λ r. ⌜ r ≡ spacesOrDate (now (f .entry)) ⌝ }
-{
-    if all_of(Class::Space, f) {
-        return true;
-    }
-    if !all_of(Class::Digit, f) {
-        return false;
-    }
-    in_range(1, 12, number_2(&f[2..4])) & in_range(1, 31, number_2(&f[4..6]))
-}
-
-// "67-72 the same, or 999999."
-fn expiry_right(f: &[u8]) -> bool
-    requires { ⌜ length (now f) ≡ 6 ⌝ }
-    ensures { λ r. ⌜ r ≡ (spacesOrDate (now (f .entry)) || same (now (f .entry)) (bytes "999999")) ⌝ }
-{
-    if spaces_or_date(f) {
-        return true;
-    }
-    same_as(f, b"999999")
-}
-
-// "75-79 data end: not before start, an address or the one past the last."
-fn data_end_right(g: Geometry, h: &[u8], start: u64) -> bool
-    requires { ⌜ (length (now h) ≡ 128) × (start ≡ rank g (startOf (now h))) × (rule29 g (now h) ≡ true) ⌝ }
-    ensures { λ r. ⌜ r ≡ rule75 g (now (h .entry)) ⌝ }
-{
-    let f = &h[74..79];
-    let a = Address::spelled(f);
-    if !(five_digits(f) & (is_legal(g, a) | past_last(g, a))) {
-        return false;
-    }
-    let end = rank_of(g, a);
-    !(end < start)
 }

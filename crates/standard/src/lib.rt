@@ -127,10 +127,13 @@ impl Address {
         self
     }
 
-    // Reading five digits.
+    // Reading five digits. (The length is asked once, so that no later byte need ask it.)
     pub fn read(field: &[u8]) -> FiveDigits
         ensures { λ r. ⌜ r ≡ fiveRead (now (field .entry)) ⌝ }
     {
+        if field.len() < 5 {
+            return FiveDigits::NotDigits;
+        }
         if !five_digits(field) {
             return FiveDigits::NotDigits;
         }
@@ -256,8 +259,7 @@ fn two_digits(field: &[u8], i: usize) -> u64
     digit(byte_at(field, i)) * 10 + digit(byte_at(field, i + 1))
 }
 
-// "An address is five digits".
-pub fn five_digits(field: &[u8]) -> bool
+fn five_digits(field: &[u8]) -> bool
     ensures { λ r. ⌜ r ≡ fiveDigits (now (field .entry)) ⌝ }
 {
     is_digit(byte_at(field, 0))

@@ -20,11 +20,12 @@ use Rattle.standard.specs.declared.Checked.{Checked}
 use Rattle.standard.specs.declared.Checked.the-variants.{Passed, Stopped}
 use Rattle.standard.specs.declared.Judged.{Judged}
 use Rattle.standard.specs.declared.Judged.the-variants.{Refused}
+use Rattle.promises.specs.VolumeNumbers.{of-rules}
 use Rattle.numbers.specs.Numbers.{bare, defected, numbers-both}
 use Rattle.index.specs.Whole.{Whole}
 use Rattle.volume.specs.Stages.{judgedFrom}
 use Rattle.volume.proofs.StageLaws.{given, not-given, fault-given, no-fault, differ-given, equal-passed, stop-here, go-on, from-first, kind-5, kind-7, kinds-0}
-use Rattle.volume.proofs.NumberLaws.{length-same, cylinders-same, kinds-same, whole-of, bounded}
+use Rattle.volume.proofs.NumberLaws.{length-same, cylinders-same, kinds-same, whole-of}
 
 module _ (image : List ℕ) where
   abbrev v : List ℕ
@@ -113,7 +114,7 @@ module _ (image : List ℕ) where
 
         pub whole-after : lowestFault (vol1Rules v) ≡ 0 → length image ≡ imageLength b → Whole n image
         whole-after z right =
-            subst (λ (x : Geometry). Whole x image) (sym numbers-are) (whole-of g (bounded v e z) image (right ∙ length-is))
+            subst (λ (x : Geometry). Whole x image) (sym numbers-are) (whole-of g (of-rules image z) image (right ∙ length-is))
 
         pub behind-7 : (j : Judged) → f ≤ 0 → j ≡ judgedFrom 7 image n → j ≡ judgedFrom 6 image g
         behind-7 j h k =

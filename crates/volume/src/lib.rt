@@ -28,6 +28,7 @@ use standard::Refusal;
 use standard::wide;
 ghost use mathlib.Core.Path.{_≡_};
 ghost use mathlib.Core.Bool.{cond};
+ghost use mathlib.Core.List.{[]};
 ghost use Prim.Native.Nat.{_+_, _-_, _*_, _<_, _≤_};
 ghost use lib.ListN.{length};
 ghost use Rattle.standard.specs.Refusals.{refuse};
@@ -140,7 +141,7 @@ pub fn judge(image: &[u8]) -> Judged
     judge_vol1(image)
 }
 
-// What stops a file call: "A file call stops at the first refusal of the volume."
+// What stops a file call: "A file call stops at the first refusal of the volume." (Inner: for every file call.)
 pub fn refusal_of(j: Judged) -> Refusal
     ensures { λ r. ⌜ r ≡ refusalOf j ⌝ }
 {
@@ -191,6 +192,13 @@ fn slot_named(g: Geometry, image: &[u8], name: &[u8]) -> u64
     0
 }
 
+// 13: "no label in that slot or of that name", 0
+fn unfound() -> Found
+    ensures { λ r. ⌜ r ≡ Found.Unfound (refuse 13 0) ⌝ }
+{
+    Found::Unfound(refused(13, 0))
+}
+
 pub fn find(image: &[u8], name: &[u8]) -> Found
     ensures { λ r. ⌜ r ≡ found (now (image .entry)) (now (name .entry)) ⌝ }
 {
@@ -198,11 +206,11 @@ pub fn find(image: &[u8], name: &[u8]) -> Found
     let Judged::Volume(g) = j else {
         return Found::Unfound(refusal_of(j));
     };
-    let slot = slot_named(g, image, name);
-    if slot == 0 {
-        return Found::Unfound(refused(13, 0));
+    let bearer = slot_named(g, image, name);
+    if bearer == 0 {
+        return unfound();
     }
-    Found::At(slot, label_offset(g, slot))
+    Found::At(bearer, label_offset(g, bearer))
 }
 
 pub fn find_slot(image: &[u8], slot: u64) -> Found
@@ -212,23 +220,23 @@ pub fn find_slot(image: &[u8], slot: u64) -> Found
     let Judged::Volume(g) = j else {
         return Found::Unfound(refusal_of(j));
     };
-    if !has_label(g, image, slot) {
-        return Found::Unfound(refused(13, 0));
+    if has_label(g, image, slot) {
+        return Found::At(slot, label_offset(g, slot));
     }
-    Found::At(slot, label_offset(g, slot))
+    unfound()
 }
 
-// "A file's label is handed out as the 128 bytes in the image itself, empty if refused (1-13 only)": the part of the lent image.
+// "A file's label is handed out as the 128 bytes in the image itself, empty if refused (1-13 only)": a part of the lent image.
 pub fn label_named<'a, 'b>(image: &'a [u8], name: &'b [u8]) -> &'a [u8]
     ensures { λ r. ⌜ now r ≡ labelNamed (now (image .entry)) (now (name .entry)) ⌝ }
 {
     let j = judge(image);
     let Judged::Volume(g) = j else {
-        return &image[0..0];
+        return nothing(image);
     };
     let slot = slot_named(g, image, name);
     if slot == 0 {
-        return &image[0..0];
+        return nothing(image);
     }
     label_at(g, image, slot)
 }
@@ -238,12 +246,18 @@ pub fn label_in_slot(image: &[u8], slot: u64) -> &[u8]
 {
     let j = judge(image);
     let Judged::Volume(g) = j else {
-        return &image[0..0];
+        return nothing(image);
     };
     if !has_label(g, image, slot) {
-        return &image[0..0];
+        return nothing(image);
     }
     label_at(g, image, slot)
+}
+
+fn nothing(image: &[u8]) -> &[u8]
+    ensures { λ r. ⌜ now r ≡ [] ⌝ }
+{
+    &image[0..0]
 }
 
 // The free records: all data addresses less those of the labels' extents, which share none.

@@ -2,14 +2,12 @@
 -- Assumes nothing.
 use Prim.Native.Nat.{_≤_, _-_}
 use mathlib.Core.Path.{_≡_, refl, sym, _∙_}
-use mathlib.Core.Path.{refl, sym, _∙_}
 use lib.ListN.{length, drop}
 use native.Mathlib.Omega.{arith}
 use borrow.Author.Needs.{needs}
 use denote.Ref.{now}
 use Rattle.standard.specs.Characters.{every}
 use Rattle.fields.specs.Classes.{classed}
-use Rattle.fields.proofs.LoopLaws.{every-more, every-stop, every-end}
 use Rattle.fields.proofs.LoopLaws.{every-more, every-stop, every-end}
 use Rattle.fields.proofs.all_of.Statement.{statement}
 use Rattle.fields.proofs.all_of.Tie as tie
@@ -31,8 +29,9 @@ in-class-requires c κs = search needs
 
 returns : tie.Need-returns Inv-loop μ-loop
 returns c =
-    let a = c .before .before .before .before .before .before .args in
-    let w = c .before .before .before .before .loop in
+    let c1 = c .before .before .before .before in
+    let a = c1 .before .before .args in
+    let w = c1 .loop in
     sym (w .inv .1 ∙ every-stop (classed (a .t)) (now (a .f)) (w .i) (omega arith) (cc))
 
 add-i : tie.Need-add-i Inv-loop μ-loop
@@ -43,8 +42,9 @@ loop-less c = search needs
 
 loop-again : tie.Need-loop-again Inv-loop μ-loop
 loop-again c =
-    let a = c .before .before .before .before .before .before .args in
-    let w = c .before .before .before .before .loop in
+    let c1 = c .before .before .before .before in
+    let a = c1 .before .before .args in
+    let w = c1 .loop in
     (omega arith, w .inv .1 ∙ every-more (classed (a .t)) (now (a .f)) (w .i) (omega arith) (cc))
 
 returns-2 : tie.Need-returns-2 Inv-loop μ-loop

@@ -1,29 +1,16 @@
 -- `decimal_in` meets its contract. The invariant: the digits still to come decide, the number so far goes on with them, and it has no more digits than were passed.
 -- Assumes nothing.
 use Prim.Native.Nat.{_≤_, _<_, _-_, _^_}
-use Prim.Native.Nat.{_≤_, _<_, _-_, _^_}
-use Prim.Native.Nat.{_≤_, _<_, _-_, _^_}
-use Prim.Native.Nat.{_≤_, _<_, _-_, _^_}
 use mathlib.Core.Bool.{true}
 use mathlib.Core.Path.{_≡_, refl, sym, _∙_}
 use lib.ListN.{length, drop}
-use lib.ListN.{length, drop}
 use native.Mathlib.Omega.{arith}
 use borrow.Author.Tests.{not-false}
-use borrow.Author.Tests.{not-false}
-use borrow.Author.Tests.{not-false}
 use borrow.Author.Needs.{needs}
-use borrow.Author.Tests.{not-false}
 use denote.Ref.{now}
 use Rattle.standard.specs.Characters.{isDigit, digits, number, numberFrom}
-use Rattle.standard.specs.Characters.{isDigit, digits, number, numberFrom}
-use Rattle.standard.specs.Characters.{isDigit, digits, number, numberFrom}
-use Rattle.standard.specs.Characters.{isDigit, digits, number, numberFrom}
-use Rattle.fields.proofs.PerhapsLaws.{is-number, is-nothing}
-use Rattle.fields.proofs.PerhapsLaws.{is-number, is-nothing}
 use Rattle.fields.proofs.PerhapsLaws.{is-number, is-nothing}
 use Rattle.fields.proofs.LoopLaws.{every-more, every-stop, every-end, number-more, number-end, power-most, bound-more, digit-most}
-use Rattle.fields.proofs.PerhapsLaws.{is-number, is-nothing}
 use Rattle.fields.proofs.decimal_in.Statement.{statement}
 use Rattle.fields.proofs.decimal_in.Tie as tie
 
@@ -44,13 +31,15 @@ is-digit-requires c κs = search needs
 
 returns : tie.Need-returns Inv-loop μ-loop
 returns c =
-    let w = c .before .before .before .before .loop in
-    let f = now (c .before .before .before .before .before .before .args .f) in
+    let c1 = c .before .before .before .before in
+    let w = c1 .loop in
+    let f = now (c1 .before .before .args .f) in
     is-nothing _ _ (w .inv .2 ∙ every-stop isDigit f (w .i) (omega arith) (cc))
 
 mul-n : tie.Need-mul-n Inv-loop μ-loop
 mul-n c =
-    let w = c .before .before .before .before .loop in
+    let c1 = c .before .before .before .before in
+    let w = c1 .loop in
     omega (arith, w .inv .1, power-most (w .i) (omega arith))
 
 digit-requires : tie.Need-digit-requires Inv-loop μ-loop
@@ -58,7 +47,8 @@ digit-requires c κs = search needs
 
 add-n : tie.Need-add-n Inv-loop μ-loop
 add-n c =
-    let w = c .before .before .before .before .before .loop in
+    let c1 = c .before .before .before .before .before in
+    let w = c1 .loop in
     omega (arith, w .inv .1, power-most (w .i) (omega arith), c .digit .ensures)
 
 add-i : tie.Need-add-i Inv-loop μ-loop
@@ -69,11 +59,13 @@ loop-less c = search needs
 
 loop-again : tie.Need-loop-again Inv-loop μ-loop
 loop-again c =
-    let w = c .before .before .before .before .before .loop in
-    let f = now (c .before .before .before .before .before .before .before .args .f) in
-    let d : isDigit (c .before .before .before .byte-at .result) ≡ true = not-false (isDigit (c .before .before .before .byte-at .result)) (cc) in (
+    let c1 = c .before .before .before in
+    let c2 = c1 .before .before .before .before in
+    let w = c1 .before .before .loop in
+    let f = now (c2 .args .f) in
+    let d : isDigit (c1 .byte-at .result) ≡ true = not-false (isDigit (c1 .byte-at .result)) (cc) in (
       omega arith,
-      bound-more _ _ _ (w .inv .1) (omega (arith, c .digit .ensures, digit-most (c .before .before .before .byte-at .result) d)),
+      bound-more _ _ _ (w .inv .1) (omega (arith, c .digit .ensures, digit-most (c1 .byte-at .result) d)),
       w .inv .2 ∙ every-more isDigit f (w .i) (omega arith) (cc),
       w .inv .3 ∙ number-more f (w .n) (w .i) (omega arith) ∙ cc,
     )

@@ -3,7 +3,6 @@
 use native.Mathlib.Omega.{arith}
 use borrow.Author.Needs.{needs}
 use Rattle.fields.proofs.NumberLaws.{hex-1}
-use Rattle.fields.proofs.NumberLaws.{hex-1}
 use Rattle.fields.proofs.hex_1.Statement.{statement}
 use Rattle.fields.proofs.hex_1.Tie as tie
 

@@ -3,7 +3,6 @@
 use native.Mathlib.Omega.{arith}
 use borrow.Author.Needs.{needs}
 use Rattle.fields.proofs.NumberLaws.{hex-2}
-use Rattle.fields.proofs.NumberLaws.{hex-2}
 use Rattle.fields.proofs.hex_2.Statement.{statement}
 use Rattle.fields.proofs.hex_2.Tie as tie
 

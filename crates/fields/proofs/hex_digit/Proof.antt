@@ -3,8 +3,6 @@
 use native.Mathlib.Omega.{arith}
 use borrow.Author.Needs.{needs}
 use Rattle.fields.proofs.NumberLaws.{hex-yes, hex-not}
-use Rattle.fields.proofs.NumberLaws.{hex-yes, hex-not}
-use Rattle.fields.proofs.NumberLaws.{hex-yes, hex-not}
 use Rattle.fields.proofs.hex_digit.Statement.{statement}
 use Rattle.fields.proofs.hex_digit.Tie as tie
 

@@ -1,25 +1,18 @@
--- `in_a_set` meets its contract: the four tests of `aSet`.
+-- `in_a_set` meets its contract: below, above, and in between (CharacterLaws).
 -- Assumes nothing.
-use borrow.Author.Needs.{needs}
-use Rattle.standard.specs.Characters.{aSet}
-use Rattle.standard.specs.Characters.{aSet}
-use Rattle.standard.specs.Characters.{aSet}
+use native.Mathlib.Omega.{arith}
+use Rattle.fields.proofs.CharacterLaws.{below-set, above-set, inside-set}
 use Rattle.fields.proofs.in_a_set.Statement.{statement}
 use Rattle.fields.proofs.in_a_set.Tie as tie
 
-in-range-requires : tie.Need-in-range-requires
-in-range-requires c κs = search needs
-
-in-range-requires-2 : tie.Need-in-range-requires-2
-in-range-requires-2 c κs = search needs
-
-in-range-requires-3 : tie.Need-in-range-requires-3
-in-range-requires-3 c κs = search needs
-
 returns : tie.Need-returns
-unfolding aSet
-returns c = cc
+returns c = below-set _ (omega arith)
+
+returns-2 : tie.Need-returns-2
+returns-2 c = above-set _ (omega arith)
+
+returns-3 : tie.Need-returns-3
+returns-3 c = inside-set _ (omega arith) (omega arith)
 
 pub in-a-set-spec : {M : Type 1} → statement M
-in-a-set-spec =
-    tie.close (tie.spec in-range-requires in-range-requires-2 in-range-requires-3 returns)
+in-a-set-spec = tie.close (tie.spec returns returns-2 returns-3)

@@ -13,42 +13,11 @@ in-a-set-requires c κs = search needs
 enum-told-2 : tie.Need-enum-told-2
 enum-told-2 c = search needs
 
-enum-told-3 : tie.Need-enum-told-3
-enum-told-3 c = search needs
-
-is-digit-requires : tie.Need-is-digit-requires
-is-digit-requires c κs = search needs
-
-enum-told-4 : tie.Need-enum-told-4
-enum-told-4 c = search needs
-
-is-hex-requires : tie.Need-is-hex-requires
-is-hex-requires c κs = search needs
-
 returns : tie.Need-returns
 returns c = cc
 
 returns-2 : tie.Need-returns-2
 returns-2 c = cc
 
-returns-3 : tie.Need-returns-3
-returns-3 c = cc
-
-returns-4 : tie.Need-returns-4
-returns-4 c = cc
-
 pub in-class-spec : {M : Type 1} → statement M
-in-class-spec =
-    tie.close
-    (tie.spec
-    enum-told
-    in-a-set-requires
-    enum-told-2
-    enum-told-3
-    is-digit-requires
-    enum-told-4
-    is-hex-requires
-    returns
-    returns-2
-    returns-3
-    returns-4)
+in-class-spec = tie.close (tie.spec enum-told in-a-set-requires enum-told-2 returns returns-2)

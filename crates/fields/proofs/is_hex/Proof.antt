@@ -2,8 +2,6 @@
 -- Assumes nothing.
 use borrow.Author.Needs.{needs}
 use Rattle.standard.specs.Characters.{isHex}
-use Rattle.standard.specs.Characters.{isHex}
-use Rattle.standard.specs.Characters.{isHex}
 use Rattle.fields.proofs.is_hex.Statement.{statement}
 use Rattle.fields.proofs.is_hex.Tie as tie
 

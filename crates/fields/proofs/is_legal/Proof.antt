@@ -2,8 +2,6 @@
 -- Assumes nothing.
 use borrow.Author.Needs.{needs}
 use Rattle.standard.specs.Addresses.{legal}
-use Rattle.standard.specs.Addresses.{legal}
-use Rattle.standard.specs.Addresses.{legal}
 use Rattle.fields.proofs.is_legal.Statement.{statement}
 use Rattle.fields.proofs.is_legal.Tie as tie
 

@@ -3,7 +3,6 @@
 use native.Mathlib.Omega.{arith}
 use borrow.Author.Needs.{needs}
 use Rattle.fields.proofs.NumberLaws.{number-2}
-use Rattle.fields.proofs.NumberLaws.{number-2}
 use Rattle.fields.proofs.number_2.Statement.{statement}
 use Rattle.fields.proofs.number_2.Tie as tie
 

@@ -3,7 +3,6 @@
 use native.Mathlib.Omega.{arith}
 use borrow.Author.Needs.{needs}
 use Rattle.fields.proofs.NumberLaws.{number-4}
-use Rattle.fields.proofs.NumberLaws.{number-4}
 use Rattle.fields.proofs.number_4.Statement.{statement}
 use Rattle.fields.proofs.number_4.Tie as tie
 

@@ -3,7 +3,6 @@
 use native.Mathlib.Omega.{arith}
 use borrow.Author.Needs.{needs}
 use Rattle.fields.proofs.NumberLaws.{number-5}
-use Rattle.fields.proofs.NumberLaws.{number-5}
 use Rattle.fields.proofs.number_5.Statement.{statement}
 use Rattle.fields.proofs.number_5.Tie as tie
 

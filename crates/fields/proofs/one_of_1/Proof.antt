@@ -1,8 +1,6 @@
 -- `one_of_1` meets its contract: the definition, written out.
 -- Assumes nothing.
 use Rattle.standard.specs.Characters.{oneOf}
-use Rattle.standard.specs.Characters.{oneOf}
-use Rattle.standard.specs.Characters.{oneOf}
 use Rattle.fields.proofs.one_of_1.Statement.{statement}
 use Rattle.fields.proofs.one_of_1.Tie as tie
 

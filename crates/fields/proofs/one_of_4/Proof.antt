@@ -2,8 +2,6 @@
 -- Assumes nothing.
 use borrow.Author.Needs.{needs}
 use Rattle.standard.specs.Characters.{oneOf}
-use Rattle.standard.specs.Characters.{oneOf}
-use Rattle.standard.specs.Characters.{oneOf}
 use Rattle.fields.proofs.one_of_4.Statement.{statement}
 use Rattle.fields.proofs.one_of_4.Tie as tie
 

@@ -2,8 +2,6 @@
 -- Assumes nothing.
 use borrow.Author.Needs.{needs}
 use Rattle.standard.specs.Addresses.{pastLast}
-use Rattle.standard.specs.Addresses.{pastLast}
-use Rattle.standard.specs.Addresses.{pastLast}
 use Rattle.fields.proofs.past_last.Statement.{statement}
 use Rattle.fields.proofs.past_last.Tie as tie
 

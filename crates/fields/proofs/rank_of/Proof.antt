@@ -3,8 +3,6 @@
 use native.Mathlib.Omega.{arith}
 use borrow.Author.Needs.{needs}
 use Rattle.standard.specs.Addresses.{rank}
-use Rattle.standard.specs.Addresses.{rank}
-use Rattle.standard.specs.Addresses.{rank}
 use Rattle.fields.proofs.rank_of.Statement.{statement}
 use Rattle.fields.proofs.rank_of.Tie as tie
 

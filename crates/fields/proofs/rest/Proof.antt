@@ -1,11 +1,7 @@
 -- `rest` meets its contract: what is left of a division by 0 is the number itself.
 -- Assumes nothing.
 use mathlib.Core.Path.{sym}
-use mathlib.Core.Path.{sym}
-use mathlib.Core.Path.{sym}
 use borrow.Author.Needs.{needs}
-use Rattle.fields.proofs.NumberLaws.{rem-none}
-use Rattle.fields.proofs.NumberLaws.{rem-none}
 use Rattle.fields.proofs.NumberLaws.{rem-none}
 use Rattle.fields.proofs.rest.Statement.{statement}
 use Rattle.fields.proofs.rest.Tie as tie

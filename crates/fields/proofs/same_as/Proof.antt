@@ -2,13 +2,11 @@
 -- Assumes nothing.
 use Prim.Native.Nat.{_≤_, _-_}
 use mathlib.Core.Path.{_≡_, refl, sym, _∙_}
-use mathlib.Core.Path.{refl, sym, _∙_}
 use lib.ListN.{length, drop}
 use native.Mathlib.Omega.{arith}
 use borrow.Author.Needs.{needs}
 use denote.Ref.{now}
 use Rattle.standard.specs.Characters.{same}
-use Rattle.fields.proofs.LoopLaws.{same-more, same-stop, same-end, same-lengths}
 use Rattle.fields.proofs.LoopLaws.{same-more, same-stop, same-end, same-lengths}
 use Rattle.fields.proofs.same_as.Statement.{statement}
 use Rattle.fields.proofs.same_as.Tie as tie
@@ -33,8 +31,10 @@ byte-at-requires-2 c κs = search needs
 
 returns-2 : tie.Need-returns-2 Inv-loop μ-loop
 returns-2 c =
-    let a = c .before .before .before .before .before .before .before .before .args in
-    let w = c .before .before .before .before .loop in
+    let c1 = c .before .before .before .before in
+    let c2 = c1 .before .before .before .before in
+    let a = c2 .args in
+    let w = c1 .loop in
     sym (w .inv .2 ∙ same-stop (now (a .f)) (now (a .w)) (w .i) (omega arith) (omega arith) (λ e. omega (arith, e)))
 
 add-i : tie.Need-add-i Inv-loop μ-loop
@@ -45,13 +45,16 @@ loop-less c = search needs
 
 loop-again : tie.Need-loop-again Inv-loop μ-loop
 loop-again c =
-    let a = c .before .before .before .before .before .before .before .before .args in
-    let w = c .before .before .before .before .loop in
+    let c1 = c .before .before .before .before in
+    let c2 = c1 .before .before .before .before in
+    let a = c2 .args in
+    let w = c1 .loop in
     (omega arith, omega arith, w .inv .2 ∙ same-more (now (a .f)) (now (a .w)) (w .i) (omega arith) (omega arith) (omega arith))
 
 returns-3 : tie.Need-returns-3 Inv-loop μ-loop
 returns-3 c =
-    let a = c .before .before .before .before .before .args in
+    let c1 = c .before .before .before .before .before in
+    let a = c1 .args in
     let w = c .before .loop in
     sym (w .inv .2 ∙ same-end (now (a .f)) (now (a .w)) (w .i) (omega arith) (omega arith))
 

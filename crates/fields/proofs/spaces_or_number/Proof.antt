@@ -1,15 +1,9 @@
 -- `spaces_or_number` meets its contract: blank, not digits, or a number that is compared.
 -- Assumes nothing.
 use mathlib.Core.Path.{sym, _∙_}
-use mathlib.Core.Path.{_∙_}
-use mathlib.Core.Path.{_∙_}
 use borrow.Author.Needs.{needs}
 use denote.Ref.{now}
 use Rattle.standard.specs.Characters.{digits, number}
-use Rattle.standard.specs.Characters.{digits, number}
-use Rattle.standard.specs.Characters.{number}
-use Rattle.fields.proofs.PerhapsLaws.{test-holds, number-is, test-fails}
-use Rattle.fields.proofs.PerhapsLaws.{test-holds, number-is, test-fails}
 use Rattle.fields.proofs.PerhapsLaws.{test-holds, number-is, test-fails}
 use Rattle.fields.proofs.NumberLaws.{blank-yes, number-no, number-yes}
 use Rattle.fields.proofs.spaces_or_number.Statement.{statement}
@@ -31,13 +25,18 @@ enum-told : tie.Need-enum-told
 enum-told c = search needs
 
 returns-2 : tie.Need-returns-2
-returns-2 c = number-no _ _ _ (cc) (test-fails (digits (now (c .before .before .before .before .before .before .args .f))) (number (now (c .before .before .before .before .before .before .args .f))) (cc))
+returns-2 c =
+    let c1 = c .before .before .before .before .before .before in
+    number-no _ _ _ (cc) (test-fails (digits (now (c1 .args .f))) (number (now (c1 .args .f))) (cc))
 
 in-range-requires : tie.Need-in-range-requires
 in-range-requires c κs = search needs
 
 returns-3 : tie.Need-returns-3
-returns-3 c = c .in-range .ensures ∙ number-yes _ _ (now (c .before .before .before .before .before .before .before .before .args .f)) _ (cc) (test-holds _ _ _ (sym (c .before .before .before .before .decimal-in .ensures) ∙ c .before .before .read .given .1)) (number-is _ _ _ (sym (c .before .before .before .before .decimal-in .ensures) ∙ c .before .before .read .given .1))
+returns-3 c =
+    let c1 = c .before .before .before .before in
+    let c2 = c1 .before .before .before .before in
+    c .in-range .ensures ∙ number-yes _ _ (now (c2 .args .f)) _ (cc) (test-holds _ _ _ (sym (c1 .decimal-in .ensures) ∙ c .before .before .read .given .1)) (number-is _ _ _ (sym (c1 .decimal-in .ensures) ∙ c .before .before .read .given .1))
 
 pub spaces-or-number-spec : {M : Type 1} → statement M
 spaces-or-number-spec =

@@ -3,8 +3,6 @@
 use native.Mathlib.Omega.{arith}
 use borrow.Author.Needs.{needs}
 use Rattle.fields.proofs.NumberLaws.{times-most}
-use Rattle.fields.proofs.NumberLaws.{times-most}
-use Rattle.fields.proofs.NumberLaws.{times-most}
 use Rattle.fields.proofs.times.Statement.{statement}
 use Rattle.fields.proofs.times.Tie as tie
 

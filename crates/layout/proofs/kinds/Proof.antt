@@ -1,9 +1,11 @@
 -- `kinds` meets its contract: the walk over the index cylinder, then the walk over the others.
 -- Assumes nothing.
-use Rattle.layout.proofs.RunLaws.{first-fits, behind-fits, stops-first, stops-behind, stops-nowhere}
+use Prim.Native.Nat.{_+_, _-_, _*_}
+use native.Mathlib.Nat.{div-le-self}
 use mathlib.Core.Path.{ap, _∙_}
 use denote.Ref.{now}
 use Rattle.standard.specs.declared.Checked.the-variants.{Stopped}
+use Rattle.layout.proofs.RunLaws.{first-fits, behind-fits, stops-first, stops-behind, stops-nowhere}
 use native.Mathlib.Omega.{arith}
 use borrow.Author.Needs.{needs}
 use Rattle.layout.proofs.kinds.Statement.{statement}
@@ -12,17 +14,17 @@ use Rattle.layout.proofs.kinds.Tie as tie
 index-sectors-requires : tie.Need-index-sectors-requires
 index-sectors-requires c κs = search needs
 
+mul-start : tie.Need-mul-start
+mul-start c = search needs
+
 legal-run-requires : tie.Need-legal-run-requires
-legal-run-requires c κs = (omega arith, omega arith, first-fits _ (now (c .before .before .args .image)) _ (c .index-sectors .ensures .0) (c .before .before .pre))
+legal-run-requires c κs = (omega arith, omega arith, first-fits _ (now (c .before .before .args .image)) (c .index-sectors .result) (c .index-sectors .ensures .0) (c .before .before .pre))
 
 no-kind-requires : tie.Need-no-kind-requires
 no-kind-requires c κs = search needs
 
 returns : tie.Need-returns
-returns c = ap Stopped (c .no-kind .ensures) ∙ stops-first _ _ (c .before .before .before .index-sectors .result) (c .before .before .before .index-sectors .ensures .0) _ (c .before .before .legal-run .ensures) (omega arith)
-
-later-sectors-requires : tie.Need-later-sectors-requires
-later-sectors-requires c κs = search needs
+returns c = ap Stopped (c .no-kind .ensures) ∙ stops-first _ _ (c .before .before .before .index-sectors .result) (c .before .before .before .index-sectors .ensures .0) _ (c .before .before .legal-run .ensures) (c .before .if1 .taken)
 
 wide16-requires : tie.Need-wide16-requires
 wide16-requires c κs = search needs
@@ -30,21 +32,23 @@ wide16-requires c κs = search needs
 add-size : tie.Need-add-size
 add-size c = search needs
 
-mul-start : tie.Need-mul-start
-mul-start c = search needs
-
 wide-requires : tie.Need-wide-requires
 wide-requires c κs = search needs
 
+later-sectors-requires : tie.Need-later-sectors-requires
+later-sectors-requires c κs = search needs
+
 legal-run-requires-2 : tie.Need-legal-run-requires-2
-legal-run-requires-2 c κs = (
-  omega arith,
-  omega arith,
-  behind-fits _ (now (c .before .before .before .before .before .before .before .args .image)) (c .before .before .before .before .before .index-sectors .result) (c .before .before .before .before .before .index-sectors .ensures .0) (c .before .before .later-sectors .result) (c .before .wide16 .result) (c .wide .result) (c .before .before .later-sectors .ensures .0) (c .before .wide16 .ensures .0) (c .wide .ensures .0) (c .before .before .before .before .before .before .before .pre),
-)
+legal-run-requires-2 c κs = (omega arith, omega arith, behind-fits _ (now (c .before .before .before .before .before .before .before .args .image)) (c .before .before .before .before .before .index-sectors .result) (c .before .before .before .before .before .index-sectors .ensures .0) (c .later-sectors .result) (c .before .before .wide16 .result) (c .before .wide .result) (c .later-sectors .ensures .0) (c .before .before .wide16 .ensures .0) (c .before .wide .ensures .0) (c .before .before .before .before .before .before .before .pre))
+
+sub-no-kind : tie.Need-sub-no-kind
+sub-no-kind c = search needs
+
+div-no-kind : tie.Need-div-no-kind
+div-no-kind c = search needs
 
 add-no-kind : tie.Need-add-no-kind
-add-no-kind c = search needs
+add-no-kind c = omega (arith, div-le-self (c .before .legal-run2 .result - c .before .before .before .before .before .before .before .index-sectors .result * 129) (c .before .before .before .before .wide16 .result + 1))
 
 no-kind-requires-2 : tie.Need-no-kind-requires-2
 no-kind-requires-2 c κs = search needs
@@ -52,28 +56,32 @@ no-kind-requires-2 c κs = search needs
 returns-2 : tie.Need-returns-2
 returns-2 c =
     ap Stopped (c .no-kind2 .ensures)
-    ∙ stops-behind _ _ (c .before .before .before .before .before .before .before .before .index-sectors .result) (c .before .before .before .before .before .before .before .before .index-sectors .ensures .0) (c .before .before .before .before .before .later-sectors .result) (c .before .before .before .before .wide16 .result) (c .before .before .before .wide .result) (c .before .before .before .before .before .later-sectors .ensures .0) (c .before .before .before .before .wide16 .ensures .0) (c .before .before .before .wide .ensures .0)
-    (c .before .before .before .before .before .before .before .legal-run .result) (c .before .before .legal-run2 .result) (c .before .before .before .before .before .before .before .legal-run .ensures) (omega arith) (c .before .before .legal-run2 .ensures) (omega arith)
+    ∙ stops-behind _ _ (c .before .before .before .before .before .before .before .before .index-sectors .result) (c .before .before .before .before .before .before .before .before .index-sectors .ensures .0)
+    (c .before .before .before .later-sectors .result) (c .before .before .before .before .before .wide16 .result) (c .before .before .before .before .wide .result) (c .before .before .before .later-sectors .ensures .0) (c .before .before .before .before .before .wide16 .ensures .0) (c .before .before .before .before .wide .ensures .0) (c .before .before .before .before .before .before .before .before .before .before .pre)
+    (c .before .before .before .before .before .before .before .legal-run .result) (c .before .before .legal-run2 .result) (c .before .before .before .before .before .before .before .legal-run .ensures) (c .before .before .before .before .before .before .if1 .left) (c .before .before .legal-run2 .ensures) (c .before .if2 .taken)
 
 returns-3 : tie.Need-returns-3
 returns-3 c =
-    stops-nowhere _ _ (c .before .before .before .before .before .before .before .index-sectors .result) (c .before .before .before .before .before .before .before .index-sectors .ensures .0) (c .before .before .before .before .later-sectors .result) (c .before .before .before .wide16 .result) (c .before .before .wide .result) (c .before .before .before .before .later-sectors .ensures .0) (c .before .before .before .wide16 .ensures .0) (c .before .before .wide .ensures .0)
-    (c .before .before .before .before .before .before .legal-run .result) (c .before .legal-run2 .result) (c .before .before .before .before .before .before .legal-run .ensures) (omega arith) (c .before .legal-run2 .ensures) (omega arith)
+    stops-nowhere _ _ (c .before .before .before .before .before .before .before .index-sectors .result) (c .before .before .before .before .before .before .before .index-sectors .ensures .0)
+    (c .before .before .later-sectors .result) (c .before .before .before .before .wide16 .result) (c .before .before .before .wide .result) (c .before .before .later-sectors .ensures .0) (c .before .before .before .before .wide16 .ensures .0) (c .before .before .before .wide .ensures .0) (c .before .before .before .before .before .before .before .before .before .pre)
+    (c .before .before .before .before .before .before .legal-run .result) (c .before .legal-run2 .result) (c .before .before .before .before .before .before .legal-run .ensures) (c .before .before .before .before .before .if1 .left) (c .before .legal-run2 .ensures) (c .if2 .left)
 
 pub kinds-spec : {M : Type 1} → statement M
 kinds-spec =
     tie.close
     (tie.spec
     index-sectors-requires
+    mul-start
     legal-run-requires
     no-kind-requires
     returns
-    later-sectors-requires
     wide16-requires
     add-size
-    mul-start
     wide-requires
+    later-sectors-requires
     legal-run-requires-2
+    sub-no-kind
+    div-no-kind
     add-no-kind
     no-kind-requires-2
     returns-2

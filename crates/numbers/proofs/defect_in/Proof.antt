@@ -4,8 +4,6 @@ use native.Mathlib.Omega.{arith}
 use borrow.Author.Needs.{needs}
 use denote.Ref.{now}
 use Rattle.numbers.proofs.Laws.{defect-none, defect-some}
-use Rattle.numbers.proofs.Laws.{defect-none, defect-some}
-use Rattle.numbers.proofs.Laws.{defect-none, defect-some}
 use Rattle.numbers.proofs.defect_in.Statement.{statement}
 use Rattle.numbers.proofs.defect_in.Tie as tie
 
@@ -19,7 +17,9 @@ cylinder-in-requires : tie.Need-cylinder-in-requires
 cylinder-in-requires c κs = search needs
 
 narrow-requires : tie.Need-narrow-requires
-narrow-requires c κs = omega (arith, defect-some (now (c .before .before .before .before .args .f)) (c .cylinder-in .result) (cc) (c .cylinder-in .ensures .0))
+narrow-requires c κs =
+    let c1 = c .before .before .before .before in
+    omega (arith, defect-some (now (c1 .args .f)) (c .cylinder-in .result) (cc) (c .cylinder-in .ensures .0))
 
 returns-2 : tie.Need-returns-2
 returns-2 c = defect-some _ _ (cc) (cc)

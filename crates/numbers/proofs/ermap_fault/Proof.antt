@@ -2,8 +2,6 @@
 -- Assumes nothing.
 use borrow.Author.Needs.{needs}
 use Rattle.standard.specs.Defects.{ermapRules, ermapRule7, ermapRule11}
-use Rattle.standard.specs.Defects.{ermapRules, ermapRule7, ermapRule11}
-use Rattle.standard.specs.Defects.{ermapRules, ermapRule7, ermapRule11}
 use Rattle.fields.proofs.RowLaws.{fault-here, fault-next, fault-none}
 use Rattle.numbers.proofs.ermap_fault.Statement.{statement}
 use Rattle.numbers.proofs.ermap_fault.Tie as tie
@@ -43,7 +41,8 @@ first-right-requires c κs = search needs
 returns-2 : tie.Need-returns-2
 unfolding ermapRules ermapRule7 ermapRule11
 returns-2 c =
-    fault-next _ _ _ _ (c .before .before .before .before .same-as .ensures) (c .before .before .before .if1 .left)
+    let c1 = c .before .before .before in
+    fault-next _ _ _ _ (c1 .before .same-as .ensures) (c1 .if1 .left)
     (fault-here _ _ _ (c .before .first-right .ensures) (c .if2 .taken))
 
 sub-second-right : tie.Need-sub-second-right
@@ -70,15 +69,19 @@ second-right-requires c κs = search needs
 returns-3 : tie.Need-returns-3
 unfolding ermapRules ermapRule7 ermapRule11
 returns-3 c =
-    fault-next _ _ _ _ (c .before .before .before .before .before .before .before .before .same-as .ensures) (c .before .before .before .before .before .before .before .if1 .left)
-    (fault-next _ _ _ _ (c .before .before .before .before .before .first-right .ensures) (c .before .before .before .before .if2 .left)
+    let c1 = c .before .before .before .before in
+    let c2 = c1 .before .before .before in
+    fault-next _ _ _ _ (c2 .before .same-as .ensures) (c2 .if1 .left)
+    (fault-next _ _ _ _ (c1 .before .first-right .ensures) (c1 .if2 .left)
     (fault-here _ _ _ (c .before .second-right .ensures) (c .if3 .taken)))
 
 returns-4 : tie.Need-returns-4
 unfolding ermapRules ermapRule7 ermapRule11
 returns-4 c =
-    fault-next _ _ _ _ (c .before .before .before .before .before .before .before .before .same-as .ensures) (c .before .before .before .before .before .before .before .if1 .left)
-    (fault-next _ _ _ _ (c .before .before .before .before .before .first-right .ensures) (c .before .before .before .before .if2 .left)
+    let c1 = c .before .before .before .before in
+    let c2 = c1 .before .before .before in
+    fault-next _ _ _ _ (c2 .before .same-as .ensures) (c2 .if1 .left)
+    (fault-next _ _ _ _ (c1 .before .first-right .ensures) (c1 .if2 .left)
     (fault-next _ _ _ _ (c .before .second-right .ensures) (c .if3 .left)
     (fault-none)))
 

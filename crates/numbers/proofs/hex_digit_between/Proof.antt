@@ -1,11 +1,20 @@
--- `hex_digit_between` meets its contract.
+-- `hex_digit_between` meets its contract: the one character is a hex digit (`each-1`).
 -- Assumes nothing.
 use borrow.Author.Needs.{needs}
+use denote.Ref.{now}
+use Rattle.standard.specs.Characters.{isHex}
+use Rattle.fields.proofs.NumberLaws.{each-1}
 use Rattle.numbers.proofs.hex_digit_between.Statement.{statement}
 use Rattle.numbers.proofs.hex_digit_between.Tie as tie
 
-all-of-requires : tie.Need-all-of-requires
-all-of-requires c κs = search needs
+shared-slice-read-wide : tie.Need-shared-slice-read-wide
+shared-slice-read-wide c = search needs
+
+wide-requires : tie.Need-wide-requires
+wide-requires c κs = search needs
+
+is-hex-requires : tie.Need-is-hex-requires
+is-hex-requires c κs = search needs
 
 hex-1-requires : tie.Need-hex-1-requires
 hex-1-requires c κs = search needs
@@ -14,8 +23,17 @@ in-range-requires : tie.Need-in-range-requires
 in-range-requires c κs = search needs
 
 returns : tie.Need-returns
-returns c = cc
+returns c =
+    let c1 = c .before .before .before .before .before .before in
+    cc (each-1 isHex (now (c1 .args .f)) (search needs))
 
 pub hex-digit-between-spec : {M : Type 1} → statement M
 hex-digit-between-spec =
-    tie.close (tie.spec all-of-requires hex-1-requires in-range-requires returns)
+    tie.close
+    (tie.spec
+    shared-slice-read-wide
+    wide-requires
+    is-hex-requires
+    hex-1-requires
+    in-range-requires
+    returns)

@@ -3,8 +3,6 @@
 use native.Mathlib.Omega.{arith}
 use borrow.Author.Needs.{needs}
 use Rattle.numbers.proofs.Laws.{size-is}
-use Rattle.numbers.proofs.Laws.{size-is}
-use Rattle.numbers.proofs.Laws.{size-is}
 use Rattle.numbers.proofs.record_size.Statement.{statement}
 use Rattle.numbers.proofs.record_size.Tie as tie
 

@@ -2,8 +2,6 @@
 -- Assumes nothing.
 use borrow.Author.Needs.{needs}
 use Rattle.numbers.proofs.Laws.{at-most}
-use Rattle.numbers.proofs.Laws.{at-most}
-use Rattle.numbers.proofs.Laws.{at-most}
 use Rattle.numbers.proofs.second_right.Statement.{statement}
 use Rattle.numbers.proofs.second_right.Tie as tie
 
@@ -26,7 +24,10 @@ all-of-requires-2 : tie.Need-all-of-requires-2
 all-of-requires-2 c κs = search needs
 
 returns : tie.Need-returns
-returns c = cc (at-most (c .before .before .before .before .cylinder-in2 .result) (c .before .before .before .before .before .before .before .before .args .l))
+returns c =
+    let c1 = c .before .before .before .before in
+    let c2 = c1 .before .before .before .before in
+    cc (at-most (c1 .cylinder-in2 .result) (c2 .args .l))
 
 pub second-right-spec : {M : Type 1} → statement M
 second-right-spec =

@@ -4,7 +4,6 @@ use native.Mathlib.Omega.{arith}
 use borrow.Author.Needs.{needs}
 use denote.Ref.{now}
 use Rattle.numbers.specs.Numbers.{bare}
-use Rattle.numbers.specs.Numbers.{bare}
 use Rattle.numbers.proofs.Laws.{vol1-small}
 use Rattle.numbers.proofs.vol1_numbers.Statement.{statement}
 use Rattle.numbers.proofs.vol1_numbers.Tie as tie
@@ -34,7 +33,9 @@ part-hex-byte-end-2 : tie.Need-part-hex-byte-end-2
 part-hex-byte-end-2 c = search needs
 
 hex-byte-requires-2 : tie.Need-hex-byte-requires-2
-hex-byte-requires-2 c κs = (search needs, vol1-small (now (c .before .before .before .before .before .args .v)) (c .before .before .before .before .before .pre .1) .i)
+hex-byte-requires-2 c κs =
+    let c1 = c .before .before .before .before .before in
+    (search needs, vol1-small (now (c1 .args .v)) (c1 .pre .1) .i)
 
 sub-hex-byte-3 : tie.Need-sub-hex-byte-3
 sub-hex-byte-3 c = search needs
@@ -46,13 +47,19 @@ part-hex-byte-end-3 : tie.Need-part-hex-byte-end-3
 part-hex-byte-end-3 c = search needs
 
 hex-byte-requires-3 : tie.Need-hex-byte-requires-3
-hex-byte-requires-3 c κs = (search needs, vol1-small (now (c .before .before .before .before .before .before .before .args .v)) (c .before .before .before .before .before .before .before .pre .1) .d)
+hex-byte-requires-3 c κs =
+    let c1 = c .before .before .before .before .before .before .before in
+    (search needs, vol1-small (now (c1 .args .v)) (c1 .pre .1) .d)
 
 narrow-requires : tie.Need-narrow-requires
-narrow-requires c κs = omega (arith, vol1-small (now (c .before .before .before .before .before .before .before .before .args .v)) (c .before .before .before .before .before .before .before .before .pre .1) .k, c .before .before .before .before .before .before .kind-in .ensures)
+narrow-requires c κs =
+    let c1 = c .before .before .before .before .before .before in
+    omega (arith, vol1-small (now (c1 .before .before .args .v)) (c1 .before .before .pre .1) .k, c1 .kind-in .ensures)
 
 record-size-requires : tie.Need-record-size-requires
-record-size-requires c κs = omega (arith, vol1-small (now (c .before .before .before .before .before .before .before .before .before .args .v)) (c .before .before .before .before .before .before .before .before .before .pre .1) .k, c .before .before .before .before .before .before .before .kind-in .ensures)
+record-size-requires c κs =
+    let c1 = c .before .before .before .before .before .before .before in
+    omega (arith, vol1-small (now (c1 .before .before .args .v)) (c1 .before .before .pre .1) .k, c1 .kind-in .ensures)
 
 sub-hex-1 : tie.Need-sub-hex-1
 sub-hex-1 c = search needs
@@ -67,7 +74,9 @@ hex-1-requires : tie.Need-hex-1-requires
 hex-1-requires c κs = search needs
 
 narrow-requires-2 : tie.Need-narrow-requires-2
-narrow-requires-2 c κs = omega (arith, vol1-small (now (c .before .before .before .before .before .before .before .before .before .before .before .before .args .v)) (c .before .before .before .before .before .before .before .before .before .before .before .before .pre .1) .s, c .hex-1 .ensures)
+narrow-requires-2 c κs =
+    let c1 = c .before .before .before .before .before .before .before .before .before .before .before .before in
+    omega (arith, vol1-small (now (c1 .args .v)) (c1 .pre .1) .s, c .hex-1 .ensures)
 
 returns : tie.Need-returns
 unfolding bare

@@ -1,11 +1,7 @@
 -- `vol1_numbers_fault` meets its contract: row by row (RowLaws).
 -- Assumes nothing.
 use mathlib.Core.Path.{ap, _∙_}
-use mathlib.Core.Path.{ap, _∙_}
-use mathlib.Core.Path.{ap, _∙_}
 use borrow.Author.Needs.{needs}
-use Rattle.standard.specs.Characters.{oneOf}
-use Rattle.standard.specs.Characters.{oneOf}
 use Rattle.standard.specs.Characters.{oneOf}
 use Rattle.standard.specs.Volume.{vol1Rules}
 use Rattle.fields.proofs.RowLaws.{fault-here, fault-next, fault-none}
@@ -41,7 +37,8 @@ one-of-1-requires c κs = search needs
 returns-2 : tie.Need-returns-2
 unfolding vol1Rules
 returns-2 c =
-    fault-next _ _ _ _ (c .before .before .before .before .before .spaces-or-number .ensures) (c .before .before .before .before .if1 .left)
+    let c1 = c .before .before .before .before in
+    fault-next _ _ _ _ (c1 .before .spaces-or-number .ensures) (c1 .if1 .left)
     (fault-here _ _ _ (c .before .one-of-1 .ensures ∙ ap (oneOf _) (c .before .before .wide .ensures .0)) (c .if2 .taken))
 
 sub-hex-between : tie.Need-sub-hex-between
@@ -59,8 +56,10 @@ hex-between-requires c κs = search needs
 returns-3 : tie.Need-returns-3
 unfolding vol1Rules
 returns-3 c =
-    fault-next _ _ _ _ (c .before .before .before .before .before .before .before .before .spaces-or-number .ensures) (c .before .before .before .before .before .before .before .if1 .left)
-    (fault-next _ _ _ _ (c .before .before .before .before .one-of-1 .ensures ∙ ap (oneOf _) (c .before .before .before .before .before .wide .ensures .0)) (c .before .before .before .if2 .left)
+    let c1 = c .before .before .before in
+    let c2 = c1 .before .before .before .before in
+    fault-next _ _ _ _ (c2 .before .spaces-or-number .ensures) (c2 .if1 .left)
+    (fault-next _ _ _ _ (c1 .before .one-of-1 .ensures ∙ ap (oneOf _) (c1 .before .before .wide .ensures .0)) (c1 .if2 .left)
     (fault-here _ _ _ (c .before .hex-between .ensures) (c .if3 .taken)))
 
 sub-hex-between-2 : tie.Need-sub-hex-between-2
@@ -78,9 +77,12 @@ hex-between-requires-2 c κs = search needs
 returns-4 : tie.Need-returns-4
 unfolding vol1Rules
 returns-4 c =
-    fault-next _ _ _ _ (c .before .before .before .before .before .before .before .before .before .before .before .spaces-or-number .ensures) (c .before .before .before .before .before .before .before .before .before .before .if1 .left)
-    (fault-next _ _ _ _ (c .before .before .before .before .before .before .before .one-of-1 .ensures ∙ ap (oneOf _) (c .before .before .before .before .before .before .before .before .wide .ensures .0)) (c .before .before .before .before .before .before .if2 .left)
-    (fault-next _ _ _ _ (c .before .before .before .before .hex-between .ensures) (c .before .before .before .if3 .left)
+    let c1 = c .before .before .before in
+    let c2 = c1 .before .before .before in
+    let c3 = c2 .before .before .before .before in
+    fault-next _ _ _ _ (c3 .before .spaces-or-number .ensures) (c3 .if1 .left)
+    (fault-next _ _ _ _ (c2 .before .one-of-1 .ensures ∙ ap (oneOf _) (c2 .before .before .wide .ensures .0)) (c2 .if2 .left)
+    (fault-next _ _ _ _ (c1 .before .hex-between .ensures) (c1 .if3 .left)
     (fault-here _ _ _ (c .before .hex-between2 .ensures) (c .if4 .taken))))
 
 sub-hex-between-3 : tie.Need-sub-hex-between-3
@@ -98,10 +100,14 @@ hex-between-requires-3 c κs = search needs
 returns-5 : tie.Need-returns-5
 unfolding vol1Rules
 returns-5 c =
-    fault-next _ _ _ _ (c .before .before .before .before .before .before .before .before .before .before .before .before .before .before .spaces-or-number .ensures) (c .before .before .before .before .before .before .before .before .before .before .before .before .before .if1 .left)
-    (fault-next _ _ _ _ (c .before .before .before .before .before .before .before .before .before .before .one-of-1 .ensures ∙ ap (oneOf _) (c .before .before .before .before .before .before .before .before .before .before .before .wide .ensures .0)) (c .before .before .before .before .before .before .before .before .before .if2 .left)
-    (fault-next _ _ _ _ (c .before .before .before .before .before .before .before .hex-between .ensures) (c .before .before .before .before .before .before .if3 .left)
-    (fault-next _ _ _ _ (c .before .before .before .before .hex-between2 .ensures) (c .before .before .before .if4 .left)
+    let c1 = c .before .before .before in
+    let c2 = c1 .before .before .before in
+    let c3 = c2 .before .before .before in
+    let c4 = c3 .before .before .before .before in
+    fault-next _ _ _ _ (c4 .before .spaces-or-number .ensures) (c4 .if1 .left)
+    (fault-next _ _ _ _ (c3 .before .one-of-1 .ensures ∙ ap (oneOf _) (c3 .before .before .wide .ensures .0)) (c3 .if2 .left)
+    (fault-next _ _ _ _ (c2 .before .hex-between .ensures) (c2 .if3 .left)
+    (fault-next _ _ _ _ (c1 .before .hex-between2 .ensures) (c1 .if4 .left)
     (fault-here _ _ _ (c .before .hex-between3 .ensures) (c .if5 .taken)))))
 
 sub-hex-digit-between : tie.Need-sub-hex-digit-between
@@ -119,21 +125,31 @@ hex-digit-between-requires c κs = search needs
 returns-6 : tie.Need-returns-6
 unfolding vol1Rules
 returns-6 c =
-    fault-next _ _ _ _ (c .before .before .before .before .before .before .before .before .before .before .before .before .before .before .before .before .before .spaces-or-number .ensures) (c .before .before .before .before .before .before .before .before .before .before .before .before .before .before .before .before .if1 .left)
-    (fault-next _ _ _ _ (c .before .before .before .before .before .before .before .before .before .before .before .before .before .one-of-1 .ensures ∙ ap (oneOf _) (c .before .before .before .before .before .before .before .before .before .before .before .before .before .before .wide .ensures .0)) (c .before .before .before .before .before .before .before .before .before .before .before .before .if2 .left)
-    (fault-next _ _ _ _ (c .before .before .before .before .before .before .before .before .before .before .hex-between .ensures) (c .before .before .before .before .before .before .before .before .before .if3 .left)
-    (fault-next _ _ _ _ (c .before .before .before .before .before .before .before .hex-between2 .ensures) (c .before .before .before .before .before .before .if4 .left)
-    (fault-next _ _ _ _ (c .before .before .before .before .hex-between3 .ensures) (c .before .before .before .if5 .left)
+    let c1 = c .before .before .before in
+    let c2 = c1 .before .before .before in
+    let c3 = c2 .before .before .before in
+    let c4 = c3 .before .before .before in
+    let c5 = c4 .before .before .before .before in
+    fault-next _ _ _ _ (c5 .before .spaces-or-number .ensures) (c5 .if1 .left)
+    (fault-next _ _ _ _ (c4 .before .one-of-1 .ensures ∙ ap (oneOf _) (c4 .before .before .wide .ensures .0)) (c4 .if2 .left)
+    (fault-next _ _ _ _ (c3 .before .hex-between .ensures) (c3 .if3 .left)
+    (fault-next _ _ _ _ (c2 .before .hex-between2 .ensures) (c2 .if4 .left)
+    (fault-next _ _ _ _ (c1 .before .hex-between3 .ensures) (c1 .if5 .left)
     (fault-here _ _ _ (c .before .hex-digit-between .ensures) (c .if6 .taken))))))
 
 returns-7 : tie.Need-returns-7
 unfolding vol1Rules
 returns-7 c =
-    fault-next _ _ _ _ (c .before .before .before .before .before .before .before .before .before .before .before .before .before .before .before .before .before .spaces-or-number .ensures) (c .before .before .before .before .before .before .before .before .before .before .before .before .before .before .before .before .if1 .left)
-    (fault-next _ _ _ _ (c .before .before .before .before .before .before .before .before .before .before .before .before .before .one-of-1 .ensures ∙ ap (oneOf _) (c .before .before .before .before .before .before .before .before .before .before .before .before .before .before .wide .ensures .0)) (c .before .before .before .before .before .before .before .before .before .before .before .before .if2 .left)
-    (fault-next _ _ _ _ (c .before .before .before .before .before .before .before .before .before .before .hex-between .ensures) (c .before .before .before .before .before .before .before .before .before .if3 .left)
-    (fault-next _ _ _ _ (c .before .before .before .before .before .before .before .hex-between2 .ensures) (c .before .before .before .before .before .before .if4 .left)
-    (fault-next _ _ _ _ (c .before .before .before .before .hex-between3 .ensures) (c .before .before .before .if5 .left)
+    let c1 = c .before .before .before in
+    let c2 = c1 .before .before .before in
+    let c3 = c2 .before .before .before in
+    let c4 = c3 .before .before .before in
+    let c5 = c4 .before .before .before .before in
+    fault-next _ _ _ _ (c5 .before .spaces-or-number .ensures) (c5 .if1 .left)
+    (fault-next _ _ _ _ (c4 .before .one-of-1 .ensures ∙ ap (oneOf _) (c4 .before .before .wide .ensures .0)) (c4 .if2 .left)
+    (fault-next _ _ _ _ (c3 .before .hex-between .ensures) (c3 .if3 .left)
+    (fault-next _ _ _ _ (c2 .before .hex-between2 .ensures) (c2 .if4 .left)
+    (fault-next _ _ _ _ (c1 .before .hex-between3 .ensures) (c1 .if5 .left)
     (fault-next _ _ _ _ (c .before .hex-digit-between .ensures) (c .if6 .left)
     (fault-none))))))
 

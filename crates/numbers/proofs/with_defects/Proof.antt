@@ -3,9 +3,6 @@
 use borrow.Author.Needs.{needs}
 use denote.Ref.{now}
 use Rattle.numbers.specs.Numbers.{defected}
-use Rattle.numbers.specs.Numbers.{defected}
-use Rattle.numbers.specs.Numbers.{defected}
-use Rattle.numbers.proofs.Laws.{defects-small}
 use Rattle.numbers.proofs.Laws.{defects-small}
 use Rattle.numbers.proofs.with_defects.Statement.{statement}
 use Rattle.numbers.proofs.with_defects.Tie as tie
@@ -32,7 +29,9 @@ part-defect-in-end-2 : tie.Need-part-defect-in-end-2
 part-defect-in-end-2 c = search needs
 
 defect-in-requires-2 : tie.Need-defect-in-requires-2
-defect-in-requires-2 c κs = (search needs, defects-small (c .before .before .before .before .args .g .L) (now (c .before .before .before .before .args .e)) (c .before .before .before .before .pre .1) .1)
+defect-in-requires-2 c κs =
+    let c1 = c .before .before .before .before in
+    (search needs, defects-small (c1 .args .g .L) (now (c1 .args .e)) (c1 .pre .1) .1)
 
 returns : tie.Need-returns
 unfolding defected

@@ -1,15 +1,11 @@
 -- `fault_from_41` meets its contract: the rows in order (RowLaws).
 -- Assumes nothing.
 use mathlib.Core.Path.{ap, _∙_}
-use mathlib.Core.Path.{ap, _∙_}
 use borrow.Author.Needs.{needs}
 use Rattle.standard.specs.Labels.{rule41, rule42, rule43, rule45, rule46, rule48}
 use Rattle.fields.proofs.RowLaws.{fault-here, fault-next}
 use Rattle.rules.specs.Tables.{knownRows}
 use Rattle.standard.specs.Characters.{oneOf, aSet}
-use Rattle.standard.specs.Labels.{rule41, rule42, rule43, rule45, rule46, rule48}
-use Rattle.fields.proofs.RowLaws.{fault-here, fault-next}
-use Rattle.rules.specs.Tables.{knownRows}
 use Rattle.rules.proofs.fault_from_41.Statement.{statement}
 use Rattle.rules.proofs.fault_from_41.Tie as tie
 
@@ -39,7 +35,8 @@ in-a-set-requires c κs = search needs
 returns-2 : tie.Need-returns-2
 unfolding knownRows rule41 rule42 rule43 rule45 rule46 rule48
 returns-2 c =
-    fault-next _ _ _ _ (c .before .before .before .before .before .one-of-2 .ensures ∙ ap (oneOf _) (c .before .before .before .before .before .before .wide .ensures .0)) (c .before .before .before .before .if1 .left)
+    let c1 = c .before .before .before .before in
+    fault-next _ _ _ _ (c1 .before .one-of-2 .ensures ∙ ap (oneOf _) (c1 .before .before .wide .ensures .0)) (c1 .if1 .left)
     (fault-here _ _ _ (c .before .in-a-set .ensures ∙ ap aSet (c .before .before .wide2 .ensures .0)) (c .if2 .taken))
 
 shared-slice-read-wide-3 : tie.Need-shared-slice-read-wide-3
@@ -54,17 +51,23 @@ one-of-2-requires-2 c κs = search needs
 returns-3 : tie.Need-returns-3
 unfolding knownRows rule41 rule42 rule43 rule45 rule46 rule48
 returns-3 c =
-    fault-next _ _ _ _ (c .before .before .before .before .before .before .before .before .before .one-of-2 .ensures ∙ ap (oneOf _) (c .before .before .before .before .before .before .before .before .before .before .wide .ensures .0)) (c .before .before .before .before .before .before .before .before .if1 .left)
-    (fault-next _ _ _ _ (c .before .before .before .before .before .in-a-set .ensures ∙ ap aSet (c .before .before .before .before .before .before .wide2 .ensures .0)) (c .before .before .before .before .if2 .left)
+    let c1 = c .before .before .before .before in
+    let c2 = c1 .before .before .before .before in
+    fault-next _ _ _ _ (c2 .before .one-of-2 .ensures ∙ ap (oneOf _) (c2 .before .before .wide .ensures .0)) (c2 .if1 .left)
+    (fault-next _ _ _ _ (c1 .before .in-a-set .ensures ∙ ap aSet (c1 .before .before .wide2 .ensures .0)) (c1 .if2 .left)
     (fault-here _ _ _ (c .before .one-of-22 .ensures ∙ ap (oneOf _) (c .before .before .wide3 .ensures .0)) (c .if3 .taken)))
 
 returns-4 : tie.Need-returns-4
 unfolding knownRows rule41 rule42 rule43 rule45 rule46 rule48
 returns-4 c =
-    fault-next _ _ _ _ (c .before .before .before .before .before .before .before .before .before .before .one-of-2 .ensures ∙ ap (oneOf _) (c .before .before .before .before .before .before .before .before .before .before .before .wide .ensures .0)) (c .before .before .before .before .before .before .before .before .before .if1 .left)
-    (fault-next _ _ _ _ (c .before .before .before .before .before .before .in-a-set .ensures ∙ ap aSet (c .before .before .before .before .before .before .before .wide2 .ensures .0)) (c .before .before .before .before .before .if2 .left)
-    (fault-next _ _ _ _ (c .before .before .one-of-22 .ensures ∙ ap (oneOf _) (c .before .before .before .wide3 .ensures .0)) (c .before .if3 .left)
-    (fault-here _ _ _ (c .before .before .before .before .before .before .before .before .before .before .before .before .before .before .pre .1 .verdict-is) (c .if4 .taken))))
+    let c1 = c .before .before .before in
+    let c2 = c1 .before .before .before in
+    let c3 = c2 .before .before .before in
+    let c4 = c3 .before .before .before .before .before in
+    fault-next _ _ _ _ (c3 .before .one-of-2 .ensures ∙ ap (oneOf _) (c3 .before .before .wide .ensures .0)) (c3 .if1 .left)
+    (fault-next _ _ _ _ (c2 .in-a-set .ensures ∙ ap aSet (c2 .before .wide2 .ensures .0)) (c1 .before .before .if2 .left)
+    (fault-next _ _ _ _ (c .before .before .one-of-22 .ensures ∙ ap (oneOf _) (c1 .wide3 .ensures .0)) (c .before .if3 .left)
+    (fault-here _ _ _ (c4 .pre .1 .verdict-is) (c .if4 .taken))))
 
 shared-slice-read-wide-4 : tie.Need-shared-slice-read-wide-4
 shared-slice-read-wide-4 c = search needs
@@ -78,10 +81,15 @@ one-of-3-requires c κs = search needs
 returns-5 : tie.Need-returns-5
 unfolding knownRows rule41 rule42 rule43 rule45 rule46 rule48
 returns-5 c =
-    fault-next _ _ _ _ (c .before .before .before .before .before .before .before .before .before .before .before .before .before .before .one-of-2 .ensures ∙ ap (oneOf _) (c .before .before .before .before .before .before .before .before .before .before .before .before .before .before .before .wide .ensures .0)) (c .before .before .before .before .before .before .before .before .before .before .before .before .before .if1 .left)
-    (fault-next _ _ _ _ (c .before .before .before .before .before .before .before .before .before .before .in-a-set .ensures ∙ ap aSet (c .before .before .before .before .before .before .before .before .before .before .before .wide2 .ensures .0)) (c .before .before .before .before .before .before .before .before .before .if2 .left)
-    (fault-next _ _ _ _ (c .before .before .before .before .before .before .one-of-22 .ensures ∙ ap (oneOf _) (c .before .before .before .before .before .before .before .wide3 .ensures .0)) (c .before .before .before .before .before .if3 .left)
-    (fault-next _ _ _ _ (c .before .before .before .before .before .before .before .before .before .before .before .before .before .before .before .before .before .before .pre .1 .verdict-is) (c .before .before .before .before .if4 .left)
+    let c1 = c .before .before .before .before in
+    let c2 = c1 .before .before .before in
+    let c3 = c2 .before .before .before in
+    let c4 = c3 .before .before .before in
+    let c5 = c4 .before .before .before .before .before in
+    fault-next _ _ _ _ (c4 .before .one-of-2 .ensures ∙ ap (oneOf _) (c4 .before .before .wide .ensures .0)) (c4 .if1 .left)
+    (fault-next _ _ _ _ (c3 .in-a-set .ensures ∙ ap aSet (c3 .before .wide2 .ensures .0)) (c2 .before .before .if2 .left)
+    (fault-next _ _ _ _ (c1 .before .before .one-of-22 .ensures ∙ ap (oneOf _) (c2 .wide3 .ensures .0)) (c1 .before .if3 .left)
+    (fault-next _ _ _ _ (c5 .pre .1 .verdict-is) (c1 .if4 .left)
     (fault-here _ _ _ (c .before .one-of-3 .ensures ∙ ap (oneOf _) (c .before .before .wide4 .ensures .0)) (c .if5 .taken)))))
 
 sub-spaces-or-number : tie.Need-sub-spaces-or-number
@@ -99,11 +107,17 @@ spaces-or-number-requires c κs = search needs
 returns-6 : tie.Need-returns-6
 unfolding knownRows rule41 rule42 rule43 rule45 rule46 rule48
 returns-6 c =
-    fault-next _ _ _ _ (c .before .before .before .before .before .before .before .before .before .before .before .before .before .before .before .before .before .one-of-2 .ensures ∙ ap (oneOf _) (c .before .before .before .before .before .before .before .before .before .before .before .before .before .before .before .before .before .before .wide .ensures .0)) (c .before .before .before .before .before .before .before .before .before .before .before .before .before .before .before .before .if1 .left)
-    (fault-next _ _ _ _ (c .before .before .before .before .before .before .before .before .before .before .before .before .before .in-a-set .ensures ∙ ap aSet (c .before .before .before .before .before .before .before .before .before .before .before .before .before .before .wide2 .ensures .0)) (c .before .before .before .before .before .before .before .before .before .before .before .before .if2 .left)
-    (fault-next _ _ _ _ (c .before .before .before .before .before .before .before .before .before .one-of-22 .ensures ∙ ap (oneOf _) (c .before .before .before .before .before .before .before .before .before .before .wide3 .ensures .0)) (c .before .before .before .before .before .before .before .before .if3 .left)
-    (fault-next _ _ _ _ (c .before .before .before .before .before .before .before .before .before .before .before .before .before .before .before .before .before .before .before .before .before .pre .1 .verdict-is) (c .before .before .before .before .before .before .before .if4 .left)
-    (fault-next _ _ _ _ (c .before .before .before .before .one-of-3 .ensures ∙ ap (oneOf _) (c .before .before .before .before .before .wide4 .ensures .0)) (c .before .before .before .if5 .left)
+    let c1 = c .before .before .before in
+    let c2 = c1 .before .before .before .before in
+    let c3 = c2 .before .before .before in
+    let c4 = c3 .before .before .before in
+    let c5 = c4 .before .before .before in
+    let c6 = c5 .before .before .before .before .before in
+    fault-next _ _ _ _ (c5 .before .one-of-2 .ensures ∙ ap (oneOf _) (c5 .before .before .wide .ensures .0)) (c5 .if1 .left)
+    (fault-next _ _ _ _ (c4 .in-a-set .ensures ∙ ap aSet (c4 .before .wide2 .ensures .0)) (c3 .before .before .if2 .left)
+    (fault-next _ _ _ _ (c2 .before .before .one-of-22 .ensures ∙ ap (oneOf _) (c3 .wide3 .ensures .0)) (c2 .before .if3 .left)
+    (fault-next _ _ _ _ (c6 .pre .1 .verdict-is) (c2 .if4 .left)
+    (fault-next _ _ _ _ (c1 .before .one-of-3 .ensures ∙ ap (oneOf _) (c1 .before .before .wide4 .ensures .0)) (c1 .if5 .left)
     (fault-here _ _ _ (c .before .spaces-or-number .ensures) (c .if6 .taken))))))
 
 sub-spaces-or-date : tie.Need-sub-spaces-or-date
@@ -121,12 +135,19 @@ spaces-or-date-requires c κs = search needs
 returns-7 : tie.Need-returns-7
 unfolding knownRows rule41 rule42 rule43 rule45 rule46 rule48
 returns-7 c =
-    fault-next _ _ _ _ (c .before .before .before .before .before .before .before .before .before .before .before .before .before .before .before .before .before .before .before .before .one-of-2 .ensures ∙ ap (oneOf _) (c .before .before .before .before .before .before .before .before .before .before .before .before .before .before .before .before .before .before .before .before .before .wide .ensures .0)) (c .before .before .before .before .before .before .before .before .before .before .before .before .before .before .before .before .before .before .before .if1 .left)
-    (fault-next _ _ _ _ (c .before .before .before .before .before .before .before .before .before .before .before .before .before .before .before .before .in-a-set .ensures ∙ ap aSet (c .before .before .before .before .before .before .before .before .before .before .before .before .before .before .before .before .before .wide2 .ensures .0)) (c .before .before .before .before .before .before .before .before .before .before .before .before .before .before .before .if2 .left)
-    (fault-next _ _ _ _ (c .before .before .before .before .before .before .before .before .before .before .before .before .one-of-22 .ensures ∙ ap (oneOf _) (c .before .before .before .before .before .before .before .before .before .before .before .before .before .wide3 .ensures .0)) (c .before .before .before .before .before .before .before .before .before .before .before .if3 .left)
-    (fault-next _ _ _ _ (c .before .before .before .before .before .before .before .before .before .before .before .before .before .before .before .before .before .before .before .before .before .before .before .before .pre .1 .verdict-is) (c .before .before .before .before .before .before .before .before .before .before .if4 .left)
-    (fault-next _ _ _ _ (c .before .before .before .before .before .before .before .one-of-3 .ensures ∙ ap (oneOf _) (c .before .before .before .before .before .before .before .before .wide4 .ensures .0)) (c .before .before .before .before .before .before .if5 .left)
-    (fault-next _ _ _ _ (c .before .before .before .before .spaces-or-number .ensures) (c .before .before .before .if6 .left)
+    let c1 = c .before .before .before in
+    let c2 = c1 .before .before .before in
+    let c3 = c2 .before .before .before .before in
+    let c4 = c3 .before .before .before in
+    let c5 = c4 .before .before .before in
+    let c6 = c5 .before .before .before in
+    let c7 = c6 .before .before .before .before .before in
+    fault-next _ _ _ _ (c6 .before .one-of-2 .ensures ∙ ap (oneOf _) (c6 .before .before .wide .ensures .0)) (c6 .if1 .left)
+    (fault-next _ _ _ _ (c5 .in-a-set .ensures ∙ ap aSet (c5 .before .wide2 .ensures .0)) (c4 .before .before .if2 .left)
+    (fault-next _ _ _ _ (c3 .before .before .one-of-22 .ensures ∙ ap (oneOf _) (c4 .wide3 .ensures .0)) (c3 .before .if3 .left)
+    (fault-next _ _ _ _ (c7 .pre .1 .verdict-is) (c3 .if4 .left)
+    (fault-next _ _ _ _ (c2 .before .one-of-3 .ensures ∙ ap (oneOf _) (c2 .before .before .wide4 .ensures .0)) (c2 .if5 .left)
+    (fault-next _ _ _ _ (c1 .before .spaces-or-number .ensures) (c1 .if6 .left)
     (fault-here _ _ _ (c .before .spaces-or-date .ensures) (c .if7 .taken)))))))
 
 fault-from-54-requires : tie.Need-fault-from-54-requires
@@ -135,12 +156,19 @@ fault-from-54-requires c κs = search needs
 returns-8 : tie.Need-returns-8
 unfolding knownRows rule41 rule42 rule43 rule45 rule46 rule48
 returns-8 c =
-    fault-next _ _ _ _ (c .before .before .before .before .before .before .before .before .before .before .before .before .before .before .before .before .before .before .before .before .before .one-of-2 .ensures ∙ ap (oneOf _) (c .before .before .before .before .before .before .before .before .before .before .before .before .before .before .before .before .before .before .before .before .before .before .wide .ensures .0)) (c .before .before .before .before .before .before .before .before .before .before .before .before .before .before .before .before .before .before .before .before .if1 .left)
-    (fault-next _ _ _ _ (c .before .before .before .before .before .before .before .before .before .before .before .before .before .before .before .before .before .in-a-set .ensures ∙ ap aSet (c .before .before .before .before .before .before .before .before .before .before .before .before .before .before .before .before .before .before .wide2 .ensures .0)) (c .before .before .before .before .before .before .before .before .before .before .before .before .before .before .before .before .if2 .left)
-    (fault-next _ _ _ _ (c .before .before .before .before .before .before .before .before .before .before .before .before .before .one-of-22 .ensures ∙ ap (oneOf _) (c .before .before .before .before .before .before .before .before .before .before .before .before .before .before .wide3 .ensures .0)) (c .before .before .before .before .before .before .before .before .before .before .before .before .if3 .left)
-    (fault-next _ _ _ _ (c .before .before .before .before .before .before .before .before .before .before .before .before .before .before .before .before .before .before .before .before .before .before .before .before .before .pre .1 .verdict-is) (c .before .before .before .before .before .before .before .before .before .before .before .if4 .left)
-    (fault-next _ _ _ _ (c .before .before .before .before .before .before .before .before .one-of-3 .ensures ∙ ap (oneOf _) (c .before .before .before .before .before .before .before .before .before .wide4 .ensures .0)) (c .before .before .before .before .before .before .before .if5 .left)
-    (fault-next _ _ _ _ (c .before .before .before .before .before .spaces-or-number .ensures) (c .before .before .before .before .if6 .left)
+    let c1 = c .before .before .before .before in
+    let c2 = c1 .before .before .before in
+    let c3 = c2 .before .before .before .before in
+    let c4 = c3 .before .before .before in
+    let c5 = c4 .before .before .before in
+    let c6 = c5 .before .before .before in
+    let c7 = c6 .before .before .before .before .before in
+    fault-next _ _ _ _ (c6 .before .one-of-2 .ensures ∙ ap (oneOf _) (c6 .before .before .wide .ensures .0)) (c6 .if1 .left)
+    (fault-next _ _ _ _ (c5 .in-a-set .ensures ∙ ap aSet (c5 .before .wide2 .ensures .0)) (c4 .before .before .if2 .left)
+    (fault-next _ _ _ _ (c3 .before .before .one-of-22 .ensures ∙ ap (oneOf _) (c4 .wide3 .ensures .0)) (c3 .before .if3 .left)
+    (fault-next _ _ _ _ (c7 .pre .1 .verdict-is) (c3 .if4 .left)
+    (fault-next _ _ _ _ (c2 .before .one-of-3 .ensures ∙ ap (oneOf _) (c2 .before .before .wide4 .ensures .0)) (c2 .if5 .left)
+    (fault-next _ _ _ _ (c1 .before .spaces-or-number .ensures) (c1 .if6 .left)
     (fault-next _ _ _ _ (c .before .before .spaces-or-date .ensures) (c .before .if7 .left)
     (c .fault-from-54 .ensures)))))))
 

@@ -1,15 +1,11 @@
 -- `fault_from_64` meets its contract: the rows in order (RowLaws).
 -- Assumes nothing.
 use mathlib.Core.Path.{ap, _∙_}
-use mathlib.Core.Path.{ap, _∙_}
 use borrow.Author.Needs.{needs}
 use Rattle.standard.specs.Labels.{rule64, rule67, rule73}
 use Rattle.fields.proofs.RowLaws.{fault-here, fault-next, fault-none}
 use Rattle.rules.specs.Tables.{knownRows}
 use Rattle.standard.specs.Characters.{oneOf, aSet}
-use Rattle.standard.specs.Labels.{rule64, rule67, rule73}
-use Rattle.fields.proofs.RowLaws.{fault-here, fault-next, fault-none}
-use Rattle.rules.specs.Tables.{knownRows}
 use Rattle.rules.proofs.fault_from_64.Statement.{statement}
 use Rattle.rules.proofs.fault_from_64.Tie as tie
 
@@ -42,7 +38,8 @@ expiry-right-requires c κs = search needs
 returns-2 : tie.Need-returns-2
 unfolding knownRows rule64 rule67 rule73
 returns-2 c =
-    fault-next _ _ _ _ (c .before .before .before .before .one-of-2 .ensures ∙ ap (oneOf _) (c .before .before .before .before .before .wide .ensures .0)) (c .before .before .before .if1 .left)
+    let c1 = c .before .before .before in
+    fault-next _ _ _ _ (c1 .before .one-of-2 .ensures ∙ ap (oneOf _) (c1 .before .before .wide .ensures .0)) (c1 .if1 .left)
     (fault-here _ _ _ (c .before .expiry-right .ensures) (c .if2 .taken))
 
 shared-slice-read-wide-2 : tie.Need-shared-slice-read-wide-2
@@ -57,8 +54,10 @@ in-a-set-requires c κs = search needs
 returns-3 : tie.Need-returns-3
 unfolding knownRows rule64 rule67 rule73
 returns-3 c =
-    fault-next _ _ _ _ (c .before .before .before .before .before .before .before .before .one-of-2 .ensures ∙ ap (oneOf _) (c .before .before .before .before .before .before .before .before .before .wide .ensures .0)) (c .before .before .before .before .before .before .before .if1 .left)
-    (fault-next _ _ _ _ (c .before .before .before .before .before .expiry-right .ensures) (c .before .before .before .before .if2 .left)
+    let c1 = c .before .before .before .before in
+    let c2 = c1 .before .before .before in
+    fault-next _ _ _ _ (c2 .before .one-of-2 .ensures ∙ ap (oneOf _) (c2 .before .before .wide .ensures .0)) (c2 .if1 .left)
+    (fault-next _ _ _ _ (c1 .before .expiry-right .ensures) (c1 .if2 .left)
     (fault-here _ _ _ (c .before .in-a-set .ensures ∙ ap aSet (c .before .before .wide2 .ensures .0)) (c .if3 .taken)))
 
 data-end-right-requires : tie.Need-data-end-right-requires
@@ -67,17 +66,23 @@ data-end-right-requires c κs = search needs
 returns-4 : tie.Need-returns-4
 unfolding knownRows rule64 rule67 rule73
 returns-4 c =
-    fault-next _ _ _ _ (c .before .before .before .before .before .before .before .before .before .before .one-of-2 .ensures ∙ ap (oneOf _) (c .before .before .before .before .before .before .before .before .before .before .before .wide .ensures .0)) (c .before .before .before .before .before .before .before .before .before .if1 .left)
-    (fault-next _ _ _ _ (c .before .before .before .before .before .before .before .expiry-right .ensures) (c .before .before .before .before .before .before .if2 .left)
-    (fault-next _ _ _ _ (c .before .before .before .in-a-set .ensures ∙ ap aSet (c .before .before .before .before .wide2 .ensures .0)) (c .before .before .if3 .left)
+    let c1 = c .before .before .before in
+    let c2 = c1 .before .before .before in
+    let c3 = c2 .before .before .before in
+    fault-next _ _ _ _ (c3 .before .one-of-2 .ensures ∙ ap (oneOf _) (c3 .before .before .wide .ensures .0)) (c3 .if1 .left)
+    (fault-next _ _ _ _ (c2 .before .expiry-right .ensures) (c2 .if2 .left)
+    (fault-next _ _ _ _ (c1 .in-a-set .ensures ∙ ap aSet (c1 .before .wide2 .ensures .0)) (c .before .before .if3 .left)
     (fault-here _ _ _ (c .before .data-end-right .ensures) (c .if4 .taken))))
 
 returns-5 : tie.Need-returns-5
 unfolding knownRows rule64 rule67 rule73
 returns-5 c =
-    fault-next _ _ _ _ (c .before .before .before .before .before .before .before .before .before .before .one-of-2 .ensures ∙ ap (oneOf _) (c .before .before .before .before .before .before .before .before .before .before .before .wide .ensures .0)) (c .before .before .before .before .before .before .before .before .before .if1 .left)
-    (fault-next _ _ _ _ (c .before .before .before .before .before .before .before .expiry-right .ensures) (c .before .before .before .before .before .before .if2 .left)
-    (fault-next _ _ _ _ (c .before .before .before .in-a-set .ensures ∙ ap aSet (c .before .before .before .before .wide2 .ensures .0)) (c .before .before .if3 .left)
+    let c1 = c .before .before .before in
+    let c2 = c1 .before .before .before in
+    let c3 = c2 .before .before .before in
+    fault-next _ _ _ _ (c3 .before .one-of-2 .ensures ∙ ap (oneOf _) (c3 .before .before .wide .ensures .0)) (c3 .if1 .left)
+    (fault-next _ _ _ _ (c2 .before .expiry-right .ensures) (c2 .if2 .left)
+    (fault-next _ _ _ _ (c1 .in-a-set .ensures ∙ ap aSet (c1 .before .wide2 .ensures .0)) (c .before .before .if3 .left)
     (fault-next _ _ _ _ (c .before .data-end-right .ensures) (c .if4 .left)
     (fault-none))))
 

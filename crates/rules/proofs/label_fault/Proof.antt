@@ -1,18 +1,12 @@
 -- `label_fault` meets its contract: row 1, and then the table of the level (Tables).
 -- Assumes nothing.
 use mathlib.Core.Path.{ap, sym, _∙_}
-use mathlib.Core.Path.{ap, sym, _∙_}
 use borrow.Author.Needs.{needs}
 use Rattle.standard.specs.Characters.{aSet}
 use Rattle.standard.specs.Labels.{rule44, hdr1Rules, labelFault}
 use Rattle.fields.proofs.RowLaws.{fault-here, fault-next}
 use Rattle.rules.specs.Tables.{known-table, other-table}
-use Rattle.standard.specs.Characters.{aSet}
-use Rattle.standard.specs.Labels.{rule44, hdr1Rules, labelFault}
-use Rattle.fields.proofs.RowLaws.{fault-here, fault-next}
-use Rattle.rules.specs.Tables.{known-table, other-table}
-use Rattle.rules.proofs.PartLaws.{other-is}
-use Rattle.rules.proofs.PartLaws.{other-is}
+use Rattle.checks.proofs.PartLaws.{other-is}
 use Rattle.rules.proofs.label_fault.Statement.{statement}
 use Rattle.rules.proofs.label_fault.Tie as tie
 
@@ -38,8 +32,10 @@ other-fault-requires c κs = search needs
 returns-2 : tie.Need-returns-2
 unfolding labelFault hdr1Rules rule44
 returns-2 c =
-    fault-next _ _ _ _ (c .before .before .before .before .before .before .is-hdr1 .ensures) (c .before .before .before .before .before .if1 .left)
-    (c .other-fault .ensures ∙ sym (other-table _ _ (sym (other-is _ _ 0 _ _ (c .before .before .before .before .level-of .ensures .0) (c .before .before .before .in-a-set .ensures ∙ ap aSet (c .before .before .before .before .level-of .ensures .0)) (c .before .before .is-other .ensures)) ∙ c .before .if2 .taken)))
+    let c1 = c .before .before .before in
+    let c2 = c1 .before .before .before in
+    fault-next _ _ _ _ (c2 .is-hdr1 .ensures) (c1 .before .before .if1 .left)
+    (c .other-fault .ensures ∙ sym (other-table _ _ (sym (other-is _ _ 0 _ _ (c1 .before .level-of .ensures .0) (c1 .in-a-set .ensures ∙ ap aSet (c1 .before .level-of .ensures .0)) (c .before .before .is-other .ensures)) ∙ c .before .if2 .taken)))
 
 known-fault-requires : tie.Need-known-fault-requires
 unfolding rule44
@@ -48,8 +44,10 @@ known-fault-requires c κs = (search needs, c .before .before .before .level-of 
 returns-3 : tie.Need-returns-3
 unfolding labelFault hdr1Rules rule44
 returns-3 c =
-    fault-next _ _ _ _ (c .before .before .before .before .before .before .is-hdr1 .ensures) (c .before .before .before .before .before .if1 .left)
-    (c .known-fault .ensures ∙ sym (known-table _ _ (sym (other-is _ _ 0 _ _ (c .before .before .before .before .level-of .ensures .0) (c .before .before .before .in-a-set .ensures ∙ ap aSet (c .before .before .before .before .level-of .ensures .0)) (c .before .before .is-other .ensures)) ∙ c .before .if2 .left)))
+    let c1 = c .before .before .before in
+    let c2 = c1 .before .before .before in
+    fault-next _ _ _ _ (c2 .is-hdr1 .ensures) (c1 .before .before .if1 .left)
+    (c .known-fault .ensures ∙ sym (known-table _ _ (sym (other-is _ _ 0 _ _ (c1 .before .level-of .ensures .0) (c1 .in-a-set .ensures ∙ ap aSet (c1 .before .level-of .ensures .0)) (c .before .before .is-other .ensures)) ∙ c .before .if2 .left)))
 
 pub label-fault-spec : {M : Type 1} → statement M
 label-fault-spec =

@@ -1,15 +1,11 @@
 -- `other_fault` meets its contract: the two rows in order (RowLaws).
 -- Assumes nothing.
 use mathlib.Core.Path.{sym, _∙_}
-use mathlib.Core.Path.{sym, _∙_}
 use borrow.Author.Needs.{needs}
 use Rattle.standard.specs.Labels.{rule29}
 use Rattle.fields.proofs.PerhapsLaws.{test-holds, number-is, test-fails}
 use Rattle.rules.specs.Tables.{otherRows}
-use Rattle.standard.specs.Labels.{rule29}
 use Rattle.fields.proofs.RowLaws.{fault-at, fault-past, fault-here, fault-next, fault-none}
-use Rattle.fields.proofs.PerhapsLaws.{test-holds, number-is, test-fails}
-use Rattle.rules.specs.Tables.{otherRows}
 use Rattle.rules.proofs.other_fault.Statement.{statement}
 use Rattle.rules.proofs.other_fault.Tie as tie
 
@@ -43,13 +39,15 @@ end-right-requires c κs = (search needs, number-is _ _ _ (sym (c .before .befor
 returns-2 : tie.Need-returns-2
 unfolding otherRows rule29
 returns-2 c =
-    fault-past _ _ _ _ (test-holds _ _ _ (sym (c .before .before .before .before .before .address-rank .ensures) ∙ c .before .before .before .read .given .1))
+    let c1 = c .before .before .before in
+    fault-past _ _ _ _ (test-holds _ _ _ (sym (c1 .before .before .address-rank .ensures) ∙ c1 .read .given .1))
     (fault-here _ _ _ (c .before .end-right .ensures) (c .if1 .taken))
 
 returns-3 : tie.Need-returns-3
 unfolding otherRows rule29
 returns-3 c =
-    fault-past _ _ _ _ (test-holds _ _ _ (sym (c .before .before .before .before .before .address-rank .ensures) ∙ c .before .before .before .read .given .1))
+    let c1 = c .before .before .before in
+    fault-past _ _ _ _ (test-holds _ _ _ (sym (c1 .before .before .address-rank .ensures) ∙ c1 .read .given .1))
     (fault-next _ _ _ _ (c .before .end-right .ensures) (c .if1 .left)
     (fault-none))
 

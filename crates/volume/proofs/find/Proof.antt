@@ -27,11 +27,11 @@ returns c = ap Unfound (c .refusal-of .ensures ∙ ap refusalOf (c .before .enum
 slot-named-requires : tie.Need-slot-named-requires
 slot-named-requires c κs = slotted-of _ _ (sym (c .before .before .before .judge .ensures) ∙ c .before .j .given .1)
 
-refused-requires : tie.Need-refused-requires
-refused-requires c κs = search needs
+unfound-requires : tie.Need-unfound-requires
+unfound-requires c κs = search needs
 
 returns-2 : tie.Need-returns-2
-returns-2 c = ap Unfound (c .refused .ensures) ∙ not-found _ _ _ (sym (c .before .before .before .before .before .before .judge .ensures) ∙ c .before .before .before .before .j .given .1) (sym (c .before .before .slot-named .ensures .0) ∙ c .before .if1 .taken)
+returns-2 c = c .unfound .ensures ∙ not-found _ _ _ (sym (c .before .before .before .before .before .before .judge .ensures) ∙ c .before .before .before .before .j .given .1) (sym (c .before .before .slot-named .ensures .0) ∙ c .before .if1 .taken)
 
 label-offset-requires : tie.Need-label-offset-requires
 label-offset-requires c κs =
@@ -51,7 +51,7 @@ find-spec =
     refusal-of-requires
     returns
     slot-named-requires
-    refused-requires
+    unfound-requires
     returns-2
     label-offset-requires
     returns-3)

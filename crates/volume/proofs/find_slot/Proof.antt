@@ -1,12 +1,10 @@
--- `find_slot` meets its contract: a refused volume, no label, a label.
+-- `find_slot` meets its contract: a refused volume, a label, no label.
 -- Assumes nothing.
-use Prim.Native.Nat.{_<_}
+use mathlib.Core.Path.{sym, ap, _∙_}
 use Rattle.standard.specs.declared.Found.the-variants.{Unfound}
 use Rattle.volume.specs.Stages.{refusalOf}
-use Rattle.volume.proofs.FindLaws.{room-there, slot-refused, no-slot, slot-there}
-use mathlib.Core.Path.{sym, ap, _∙_}
-use borrow.Author.Tests.{not-true, not-false}
 use Rattle.volume.proofs.NumberLaws.{slotted-of}
+use Rattle.volume.proofs.FindLaws.{room-there, slot-refused, no-slot, slot-there}
 use borrow.Author.Needs.{needs}
 use Rattle.volume.proofs.find_slot.Statement.{statement}
 use Rattle.volume.proofs.find_slot.Tie as tie
@@ -29,19 +27,19 @@ returns c = ap Unfound (c .refusal-of .ensures ∙ ap refusalOf (c .before .enum
 has-label-requires : tie.Need-has-label-requires
 has-label-requires c κs = slotted-of _ _ (sym (c .before .before .before .judge .ensures) ∙ c .before .j .given .1)
 
-refused-requires : tie.Need-refused-requires
-refused-requires c κs = search needs
-
-returns-2 : tie.Need-returns-2
-returns-2 c = ap Unfound (c .refused .ensures) ∙ no-slot _ _ _ (sym (c .before .before .before .before .before .before .judge .ensures) ∙ c .before .before .before .before .j .given .1) (sym (c .before .before .has-label .ensures) ∙ not-true (c .before .before .has-label .result) (c .before .if1 .taken))
-
 label-offset-requires : tie.Need-label-offset-requires
 label-offset-requires c κs =
-    let r = room-there _ _ _ (slotted-of _ _ (sym (c .before .before .before .before .before .judge .ensures) ∙ c .before .before .before .j .given .1)) (sym (c .before .has-label .ensures) ∙ not-false (c .before .has-label .result) (c .if1 .left)) in
+    let r = room-there _ _ _ (slotted-of _ _ (sym (c .before .before .before .before .before .judge .ensures) ∙ c .before .before .before .j .given .1)) (sym (c .before .has-label .ensures) ∙ c .if1 .taken) in
     (r .small, r .indexed)
 
+returns-2 : tie.Need-returns-2
+returns-2 c = slot-there _ _ _ (sym (c .before .before .before .before .before .before .judge .ensures) ∙ c .before .before .before .before .j .given .1) _ (sym (c .before .before .has-label .ensures) ∙ c .before .if1 .taken) (c .label-offset .ensures .0)
+
+unfound-requires : tie.Need-unfound-requires
+unfound-requires c κs = search needs
+
 returns-3 : tie.Need-returns-3
-returns-3 c = slot-there _ _ _ (sym (c .before .before .before .before .before .before .judge .ensures) ∙ c .before .before .before .before .j .given .1) _ (sym (c .before .before .has-label .ensures) ∙ not-false (c .before .before .has-label .result) (c .before .if1 .left)) (c .label-offset .ensures .0)
+returns-3 c = c .unfound .ensures ∙ no-slot _ _ _ (sym (c .before .before .before .before .before .before .judge .ensures) ∙ c .before .before .before .before .j .given .1) (sym (c .before .before .has-label .ensures) ∙ c .before .if1 .left)
 
 pub find-slot-spec : {M : Type 1} → statement M
 find-slot-spec =
@@ -53,7 +51,7 @@ find-slot-spec =
     refusal-of-requires
     returns
     has-label-requires
-    refused-requires
-    returns-2
     label-offset-requires
+    returns-2
+    unfound-requires
     returns-3)

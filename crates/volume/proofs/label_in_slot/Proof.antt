@@ -1,9 +1,9 @@
 -- `label_in_slot` meets its contract: a refused volume, no label, a label.
 -- Assumes nothing.
-use Rattle.volume.proofs.FindLaws.{room-there, slot-label-refused, no-label-there, label-there}
-use mathlib.Core.Path.{sym, ap, _∙_}
+use mathlib.Core.Path.{sym, _∙_}
 use borrow.Author.Tests.{not-true, not-false}
 use Rattle.volume.proofs.NumberLaws.{slotted-of}
+use Rattle.volume.proofs.FindLaws.{room-there, slot-label-refused, no-label-there, label-there}
 use borrow.Author.Needs.{needs}
 use Rattle.volume.proofs.label_in_slot.Statement.{statement}
 use Rattle.volume.proofs.label_in_slot.Tie as tie
@@ -17,32 +17,20 @@ enum-known-j c = search needs
 enum-told : tie.Need-enum-told
 enum-told c = search needs
 
-sub-result : tie.Need-sub-result
-sub-result c = search needs
-
-part-result-start : tie.Need-part-result-start
-part-result-start c = search needs
-
-part-result-end : tie.Need-part-result-end
-part-result-end c = search needs
+nothing-requires : tie.Need-nothing-requires
+nothing-requires c κs = search needs
 
 returns : tie.Need-returns
-returns c = slot-label-refused _ _ (sym (c .before .before .before .judge .ensures) ∙ c .before .enum-told .given .1) _
+returns c = c .nothing .ensures ∙ slot-label-refused _ _ (sym (c .before .before .before .judge .ensures) ∙ c .before .enum-told .given .1) _
 
 has-label-requires : tie.Need-has-label-requires
 has-label-requires c κs = slotted-of _ _ (sym (c .before .before .before .judge .ensures) ∙ c .before .j .given .1)
 
-sub-result-2 : tie.Need-sub-result-2
-sub-result-2 c = search needs
-
-part-result-start-2 : tie.Need-part-result-start-2
-part-result-start-2 c = search needs
-
-part-result-end-2 : tie.Need-part-result-end-2
-part-result-end-2 c = search needs
+nothing-requires-2 : tie.Need-nothing-requires-2
+nothing-requires-2 c κs = search needs
 
 returns-2 : tie.Need-returns-2
-returns-2 c = no-label-there _ _ _ (sym (c .before .before .before .before .before .before .judge .ensures) ∙ c .before .before .before .before .j .given .1) (sym (c .before .before .has-label .ensures) ∙ not-true (c .before .before .has-label .result) (c .before .if1 .taken))
+returns-2 c = c .nothing2 .ensures ∙ no-label-there _ _ _ (sym (c .before .before .before .before .before .before .judge .ensures) ∙ c .before .before .before .before .j .given .1) (sym (c .before .before .has-label .ensures) ∙ not-true (c .before .before .has-label .result) (c .before .if1 .taken))
 
 label-at-requires : tie.Need-label-at-requires
 label-at-requires c κs = room-there _ _ _ (slotted-of _ _ (sym (c .before .before .before .before .before .judge .ensures) ∙ c .before .before .before .j .given .1)) (sym (c .before .has-label .ensures) ∙ not-false (c .before .has-label .result) (c .if1 .left))
@@ -57,14 +45,10 @@ label-in-slot-spec =
     judge-requires
     enum-known-j
     enum-told
-    sub-result
-    part-result-start
-    part-result-end
+    nothing-requires
     returns
     has-label-requires
-    sub-result-2
-    part-result-start-2
-    part-result-end-2
+    nothing-requires-2
     returns-2
     label-at-requires
     returns-3)

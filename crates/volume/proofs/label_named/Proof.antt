@@ -1,6 +1,6 @@
 -- `label_named` meets its contract: a refused volume, no label of that name, a label.
 -- Assumes nothing.
-use mathlib.Core.Path.{sym, ap, _∙_}
+use mathlib.Core.Path.{sym, _∙_}
 use Rattle.volume.proofs.NumberLaws.{slotted-of}
 use Rattle.volume.proofs.FindLaws.{room, label-refused, no-label-named, label-of-name}
 use borrow.Author.Needs.{needs}
@@ -16,32 +16,20 @@ enum-known-j c = search needs
 enum-told : tie.Need-enum-told
 enum-told c = search needs
 
-sub-result : tie.Need-sub-result
-sub-result c = search needs
-
-part-result-start : tie.Need-part-result-start
-part-result-start c = search needs
-
-part-result-end : tie.Need-part-result-end
-part-result-end c = search needs
+nothing-requires : tie.Need-nothing-requires
+nothing-requires c κs = search needs
 
 returns : tie.Need-returns
-returns c = label-refused _ _ (sym (c .before .before .before .judge .ensures) ∙ c .before .enum-told .given .1) _
+returns c = c .nothing .ensures ∙ label-refused _ _ (sym (c .before .before .before .judge .ensures) ∙ c .before .enum-told .given .1) _
 
 slot-named-requires : tie.Need-slot-named-requires
 slot-named-requires c κs = slotted-of _ _ (sym (c .before .before .before .judge .ensures) ∙ c .before .j .given .1)
 
-sub-result-2 : tie.Need-sub-result-2
-sub-result-2 c = search needs
-
-part-result-start-2 : tie.Need-part-result-start-2
-part-result-start-2 c = search needs
-
-part-result-end-2 : tie.Need-part-result-end-2
-part-result-end-2 c = search needs
+nothing-requires-2 : tie.Need-nothing-requires-2
+nothing-requires-2 c κs = search needs
 
 returns-2 : tie.Need-returns-2
-returns-2 c = no-label-named _ _ _ (sym (c .before .before .before .before .before .before .judge .ensures) ∙ c .before .before .before .before .j .given .1) (sym (c .before .before .slot-named .ensures .0) ∙ c .before .if1 .taken)
+returns-2 c = c .nothing2 .ensures ∙ no-label-named _ _ _ (sym (c .before .before .before .before .before .before .judge .ensures) ∙ c .before .before .before .before .j .given .1) (sym (c .before .before .slot-named .ensures .0) ∙ c .before .if1 .taken)
 
 label-at-requires : tie.Need-label-at-requires
 label-at-requires c κs = room _ _ _ (slotted-of _ _ (sym (c .before .before .before .before .before .judge .ensures) ∙ c .before .before .before .j .given .1)) (c .before .slot-named .ensures .1)
@@ -56,14 +44,10 @@ label-named-spec =
     judge-requires
     enum-known-j
     enum-told
-    sub-result
-    part-result-start
-    part-result-end
+    nothing-requires
     returns
     slot-named-requires
-    sub-result-2
-    part-result-start-2
-    part-result-end-2
+    nothing-requires-2
     returns-2
     label-at-requires
     returns-3)

@@ -1,0 +1,52 @@
+-- `unused_right` meets its contract: neither spaces nor digits, or a number that fits or not.
+-- Assumes nothing.
+use mathlib.Core.Path.{sym, _∙_}
+use borrow.Author.Needs.{needs}
+use Rattle.checks.proofs.PartLaws.{unused-no, unused-is}
+use Rattle.checks.proofs.ExitLaws.{blank-no, blank-yes, unused-blank}
+use Rattle.checks.proofs.unused_right.Statement.{statement}
+use Rattle.checks.proofs.unused_right.Tie as tie
+
+sub-blank-or : tie.Need-sub-blank-or
+sub-blank-or c = search needs
+
+part-blank-or-start : tie.Need-part-blank-or-start
+part-blank-or-start c = search needs
+
+part-blank-or-end : tie.Need-part-blank-or-end
+part-blank-or-end c = search needs
+
+blank-or-requires : tie.Need-blank-or-requires
+blank-or-requires c κs = search needs
+
+enum-known-read : tie.Need-enum-known-read
+enum-known-read c = search needs
+
+enum-told : tie.Need-enum-told
+enum-told c = search needs
+
+returns : tie.Need-returns
+returns c = sym (unused-no _ _ (blank-no _ _ (sym (c .before .before .blank-or .ensures) ∙ c .enum-told .given .1)))
+
+unused-fits-requires : tie.Need-unused-fits-requires
+unused-fits-requires c κs = search needs
+
+returns-2 : tie.Need-returns-2
+returns-2 c =
+    let c1 = c .before .before .before .before in
+    let c2 = c1 .before .before .before in
+    unused-is _ _ _ _ _ _ _ (c2 .pre .1) (c2 .pre .2) (c2 .pre .3) (c2 .pre .4) _ (blank-yes _ _ _ (sym (c1 .blank-or .ensures) ∙ c .before .before .read .given .1)) (c2 .pre .5) (unused-blank _ _ (sym (c1 .blank-or .ensures) ∙ c .before .before .read .given .1)) (c .unused-fits .ensures)
+
+pub unused-right-spec : {M : Type 1} → statement M
+unused-right-spec =
+    tie.close
+    (tie.spec
+    sub-blank-or
+    part-blank-or-start
+    part-blank-or-end
+    blank-or-requires
+    enum-known-read
+    enum-told
+    returns
+    unused-fits-requires
+    returns-2)

@@ -1,0 +1,4 @@
+-- Rules as numbers
+pub mod Parts
+-- What the rows above have read
+pub mod Held

@@ -1,0 +1,41 @@
+// The C boundary: "The module is C and calls the library with numbers and byte slices". Each export answers with the one number that specs/Packed in
+// crates/standard says of the definition's answer, for any bytes and any numbers; promises' PackedLaws shows that the caller reads the whole answer back
+// from it. include/galzeranta.h is the C side.
+ghost use mathlib.Core.Path.{_≡_};
+ghost use Rattle.standard.specs.Judgement.{judged};
+ghost use Rattle.standard.specs.Finding.{found};
+ghost use Rattle.standard.specs.Files.{counted};
+ghost use Rattle.standard.specs.Free.{freeCount};
+ghost use Rattle.standard.specs.Packed.{packedJudged, packedFound, packedCounted};
+
+// The judgement of a volume.
+#[no_mangle]
+pub extern "C" fn galz_judge(image: &[u8]) -> u64
+    ensures { λ r. ⌜ r ≡ packedJudged (judged (now (image .entry))) ⌝ }
+{
+    packing::pack_judged(volume::judge(image))
+}
+
+// The file of a name: its slot, and where its label begins in the image.
+#[no_mangle]
+pub extern "C" fn galz_find(image: &[u8], name: &[u8]) -> u64
+    ensures { λ r. ⌜ r ≡ packedFound (found (now (image .entry)) (now (name .entry))) ⌝ }
+{
+    packing::pack_found(volume::find(image, name))
+}
+
+// The number of blocks of the file in a slot.
+#[no_mangle]
+pub extern "C" fn galz_count(image: &[u8], slot: u64) -> u64
+    ensures { λ r. ⌜ r ≡ packedCounted (counted (now (image .entry)) slot) ⌝ }
+{
+    packing::pack_counted(files::count(image, slot))
+}
+
+// The free records.
+#[no_mangle]
+pub extern "C" fn galz_free(image: &[u8]) -> u64
+    ensures { λ r. ⌜ r ≡ packedCounted (freeCount (now (image .entry))) ⌝ }
+{
+    packing::pack_counted(volume::free(image))
+}
