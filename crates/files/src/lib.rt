@@ -149,7 +149,7 @@ fn tally(g: Geometry, image: &[u8], n: Numbers, slot: u64) -> Counted
     }
 }
 
-// Refusals 13 and 14, then 17 and 18, or the number of blocks: "the count of blocks needs only 13, 14, 17, 18".
+// Refusals 13 and 14, then 17 and 18, or the number of blocks: "the count of blocks needs only 13, 14, 17, 18". (Inner: on an accepted volume.)
 pub fn count_in(g: Geometry, image: &[u8], slot: u64) -> Counted
     requires { ⌜ judged (now image) ≡ Judged.Volume g ⌝ }
     ensures { λ r. ⌜ r ≡ countIn g (now (image .entry)) slot ⌝ }
@@ -164,7 +164,7 @@ pub fn count_in(g: Geometry, image: &[u8], slot: u64) -> Counted
     tally(g, image, numbers_of(g, h), slot)
 }
 
-// Refusals 13 to 18, or the number of blocks: what a file must pass to be read.
+// Refusals 13 to 18, or the number of blocks: what a file must pass to be read. (Inner: on an accepted volume.)
 pub fn open_in(g: Geometry, image: &[u8], slot: u64) -> Counted
     requires { ⌜ judged (now image) ≡ Judged.Volume g ⌝ }
     ensures { λ r. ⌜ r ≡ openedIn g (now (image .entry)) slot ⌝ }

@@ -175,7 +175,7 @@ fn put_last(out: &mut [u8], at: usize, count: Counted, h: &[u8]) -> usize
 }
 
 // "Another level shows `?` but for slot, level, start, end."
-pub fn other_line(out: &mut [u8], at: usize, slot: u64, h: &[u8]) -> usize
+fn other_line(out: &mut [u8], at: usize, slot: u64, h: &[u8]) -> usize
     requires { ⌜ (at < 4194304) × (length (now h) ≡ 128) ⌝ }
     ensures { λ r. ⌜ Puts (now (out .entry)) (now (out .exit)) at r (otherLine slot (now (h .entry))) × (r ≤ at + 60) ⌝ }
 {
@@ -188,7 +188,7 @@ pub fn other_line(out: &mut [u8], at: usize, slot: u64, h: &[u8]) -> usize
 }
 
 // "A refused volume prints one line: `REFUSED`, number and each place, one space between."
-pub fn refused_line(out: &mut [u8], at: usize, r: Refusal) -> usize
+fn refused_line(out: &mut [u8], at: usize, r: Refusal) -> usize
     requires { ⌜ at < 4194304 ⌝ }
     ensures { λ e. ⌜ Puts (now (out .entry)) (now (out .exit)) at e (refusedLine r) × (e ≤ at + 90) ⌝ }
 {
