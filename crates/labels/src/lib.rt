@@ -17,7 +17,15 @@ ghost use Prim.Native.Nat.{_<_};
 ghost use lib.ListN.{length};
 ghost use Rattle.standard.specs.Characters.{bytes, field, same};
 ghost use Rattle.standard.specs.Addresses.{rank};
-ghost use Rattle.standard.specs.Labels.{level, knownLevel, nameOf, blockLength, startOf, endOf, isFixed, isVariable, isSpanned, recordLength, unusedCount, isBlocked, dataEndOf};
+ghost use Rattle.standard.specs.Labels.{level, knownLevel, nameOf, blockLength, startOf, endOf, isFixed, isVariable, isSpanned, recordLength, unusedCount, isBlocked, dataEndOf, formatOf};
+ghost use Rattle.labels.specs.Forms.{formIn};
+
+// "40 space or F (fixed), V, S"
+pub enum Form {
+    Fixed,
+    Variable,
+    Spanned,
+}
 
 // "1-4 `HDR1`"
 pub fn is_hdr1(h: &[u8]) -> bool
@@ -113,6 +121,21 @@ pub fn is_spanned(h: &[u8]) -> bool
     ensures { λ r. ⌜ r ≡ isSpanned (now (h .entry)) ⌝ }
 {
     one_of_1(wide(h[39]), 83)
+}
+
+// The format of a label.
+pub fn form_of(h: &[u8]) -> Form
+    requires { ⌜ length (now h) ≡ 128 ⌝ }
+    ensures { λ r. ⌜ r ≡ formIn (formatOf (now (h .entry))) ⌝ }
+{
+    let c = wide(h[39]);
+    if c == 86 {
+        return Form::Variable;
+    }
+    if c == 83 {
+        return Form::Spanned;
+    }
+    Form::Fixed
 }
 
 // "63 space, or B for blocked"
