@@ -1,24 +1,20 @@
 -- The number of blocks from the good records before the data end, as the definition has it.
 -- Assumes nothing.
 use Prim.Native.Nat.{ℕ, zero, suc, _+_, _-_, _/_, _%_, _<_, _≤_}
-use mathlib.Core.Path.{_≡_, refl, sym, ap, subst, _∙_}
-use mathlib.Core.Bool.{Bool, true, false, cond, not, _&&_, _||_}
+use mathlib.Core.Path.{_≡_, refl, sym, ap, _∙_}
+use mathlib.Core.Bool.{true, false, not, _&&_, _||_}
 use mathlib.Core.List.{List, [], _∷_}
 use lib.ListN.{length}
-use lib.Dec.{leb, ltb, eqb}
+use lib.Dec.{ltb, eqb}
 use native.Mathlib.Omega.{arith}
 use native.Mathlib.Nat.{zero-mod, zero-div}
-use borrow.Author.Tests.{lt-ltb, le-ltb, leb-true, leb-false, eqb-true, eq-eqb, ne-eqb}
+use borrow.Author.Tests.{lt-ltb, le-ltb, leb-true, leb-false, eqb-true, ne-eqb}
 use Rattle.standard.specs.Addresses.{legal, rank, before, stepped}
 use Rattle.standard.specs.Labels.{unusedCount, startOf, endOf, dataEndOf}
-use Rattle.standard.specs.Refusals.{refuse, given-when, inOrder}
+use Rattle.standard.specs.Refusals.{given-when, inOrder}
 use Rattle.standard.specs.Files.{addressesFrom, extentSize, extent, isDefective, goodAmong, goodRecords, recordsToBlock, countBefore, goodBefore, dataEndAtStart, dataEndInExtent, blocksHeld, blockCount, refusal17, splitsBlock, refusal18, countOr}
 use Rattle.standard.specs.declared.Geometry.{Geometry}
 use Rattle.standard.specs.declared.Address.{Address}
-use Rattle.standard.specs.declared.Refusal.{Refusal}
-use Rattle.standard.specs.declared.Checked.{Checked}
-use Rattle.standard.specs.declared.Checked.the-variants.{Passed, Stopped}
-use Rattle.standard.specs.declared.Counted.the-variants.{Uncounted, Count}
 use Rattle.promises.specs.Basics.{either, lt-or-le, by-test, and-l, and-r}
 use Rattle.promises.specs.Lists.{Every}
 use Rattle.promises.specs.AddressLaws.{Legal, step-rank}
@@ -30,7 +26,7 @@ use Rattle.extents.specs.declared.Condition.{Condition}
 use Rattle.extents.specs.declared.Condition.the-variants.{Wrong, Whole, Holed}
 use Rattle.extents.proofs.SurveyLaws.{Says, says}
 use Rattle.extents.proofs.RankLaws.{whole-front}
-use Rattle.files.specs.Numbers.{sizeBefore, numbersOf, endedBy, talliedBy, tallied}
+use Rattle.files.specs.Numbers.{sizeBefore, numbersOf, endedBy, tallied}
 use Rattle.files.proofs.Laws.{tally-by}
 
 -- legal addresses, one behind the other

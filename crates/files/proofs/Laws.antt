@@ -1,16 +1,15 @@
--- What a survey tells of the number of blocks; the exits of counting and opening.
+-- What a survey tells of the number of blocks; the exits of counting.
 -- Assumes nothing.
 use Prim.Native.Nat.{ℕ}
 use mathlib.Core.Path.{_≡_, ap}
 use mathlib.Core.Bool.{true, false}
 use mathlib.Core.List.{List, [], _∷_}
 use lib.ListN.{length}
-use Rattle.standard.specs.Characters.{at, isSpace}
 use Rattle.standard.specs.Refusals.{refuse, given-when, inOrder}
 use Rattle.standard.specs.Layout.{labelAt}
 use Rattle.standard.specs.Labels.{knownLevel}
 use Rattle.standard.specs.Slots.{hasLabel}
-use Rattle.standard.specs.Files.{addressesFrom, blockCount, refusal17, refusal18, countRefusal, countOr, countIn, counted, openRefusal}
+use Rattle.standard.specs.Files.{addressesFrom, blockCount, refusal17, refusal18, countRefusal, countOr, countIn, counted}
 use Rattle.standard.specs.Judgement.{judged}
 use Rattle.standard.specs.declared.Geometry.{Geometry}
 use Rattle.standard.specs.declared.Refusal.{Refusal}
@@ -19,7 +18,7 @@ use Rattle.standard.specs.declared.Counted.the-variants.{Uncounted}
 use Rattle.extents.specs.Cursors.{goodFrom}
 use Rattle.extents.specs.Surveys.{surveyed}
 use Rattle.extents.specs.declared.Condition.{Condition}
-use Rattle.files.specs.Numbers.{talliedBy, tallied, openedIn}
+use Rattle.files.specs.Numbers.{talliedBy, tallied}
 use Rattle.files.specs.declared.Numbers.{Numbers}
 
 pub tally-by : (g : Geometry) (image : List ℕ) (n : Numbers) (slot : ℕ) (k : Condition) → surveyed g image false (addressesFrom g (n .size) (n .start)) ≡ k
@@ -27,7 +26,7 @@ pub tally-by : (g : Geometry) (image : List ℕ) (n : Numbers) (slot : ℕ) (k :
 unfolding tallied
 tally-by g image n slot k e = ap (talliedBy n slot (length (goodFrom g image (n .before) (n .start)))) e
 
--- the exits of a count, and of opening
+-- the exits of a count
 module _ (g : Geometry) (image : List ℕ) (slot : ℕ) where
   pub count-13 : hasLabel g image slot ≡ false → Uncounted (refuse 13 0) ≡ countIn g image slot
   unfolding countRefusal given-when inOrder
@@ -42,31 +41,6 @@ module _ (g : Geometry) (image : List ℕ) (slot : ℕ) where
       ≡ countIn g image slot
   unfolding countRefusal given-when inOrder
   count-on a b = simp (a, b)
-
-  pub open-13 : hasLabel g image slot ≡ false → Uncounted (refuse 13 0) ≡ openedIn g image slot
-  unfolding openedIn openRefusal given-when inOrder
-  open-13 a = simp a
-
-  pub open-14 : hasLabel g image slot ≡ true → knownLevel (labelAt g image slot) ≡ false → Uncounted (refuse 14 slot) ≡ openedIn g image slot
-  unfolding openedIn openRefusal given-when inOrder
-  open-14 a b = simp (a, b)
-
-  pub open-15 : hasLabel g image slot ≡ true → knownLevel (labelAt g image slot) ≡ true → isSpace (at (labelAt g image slot) 42) ≡ false
-      → Uncounted (refuse 15 slot) ≡ openedIn g image slot
-  unfolding openedIn openRefusal given-when inOrder
-  open-15 a b d = simp (a, b, d)
-
-  pub open-16 : hasLabel g image slot ≡ true → knownLevel (labelAt g image slot) ≡ true → isSpace (at (labelAt g image slot) 42) ≡ true
-      → isSpace (at (labelAt g image slot) 45) ≡ false → Uncounted (refuse 16 slot) ≡ openedIn g image slot
-  unfolding openedIn openRefusal given-when inOrder
-  open-16 a b d e = simp (a, b, d, e)
-
-  pub open-on : hasLabel g image slot ≡ true → knownLevel (labelAt g image slot) ≡ true → isSpace (at (labelAt g image slot) 42) ≡ true
-      → isSpace (at (labelAt g image slot) 45) ≡ true
-      → countOr (inOrder (refusal17 g image (labelAt g image slot) ∷ refusal18 g image (labelAt g image slot) slot ∷ [])) (blockCount g image (labelAt g image slot))
-      ≡ openedIn g image slot
-  unfolding openedIn openRefusal given-when inOrder
-  open-on a b d e = simp (a, b, d, e)
 
 -- a file call on a volume that is refused, and on one that is not
 pub counted-refused : (image : List ℕ) (slot : ℕ) (r : Refusal) → judged image ≡ Refused r → Uncounted r ≡ counted image slot

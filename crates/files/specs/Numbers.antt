@@ -8,8 +8,7 @@ use lib.Dec.{ltb, eqb}
 use Rattle.standard.specs.Refusals.{refuse}
 use Rattle.standard.specs.Addresses.{rank}
 use Rattle.standard.specs.Labels.{blockLength, recordLength, unusedCount, startOf, dataEndOf}
-use Rattle.standard.specs.Files.{extentSize, addressesFrom, recordsToBlock, dataEndInExtent, countOr, blockCount, openRefusal}
-use Rattle.standard.specs.Layout.{labelAt}
+use Rattle.standard.specs.Files.{extentSize, addressesFrom, recordsToBlock, dataEndInExtent}
 use Rattle.standard.specs.declared.Geometry.{Geometry}
 use Rattle.standard.specs.declared.Counted.{Counted}
 use Rattle.standard.specs.declared.Counted.the-variants.{Uncounted, Count}
@@ -51,7 +50,3 @@ talliedBy n slot good Holed = endedBy n slot good
 
 unfoldable pub tallied : Geometry → List ℕ → Numbers → ℕ → Counted
 tallied g image n slot = talliedBy n slot (length (goodFrom g image (n .before) (n .start))) (surveyed g image false (addressesFrom g (n .size) (n .start)))
-
--- "Reading: 13-19": the refusals that a file must pass to be opened, or the number of its blocks
-unfoldable pub openedIn : Geometry → List ℕ → ℕ → Counted
-openedIn g image slot = countOr (openRefusal g image slot) (blockCount g image (labelAt g image slot))

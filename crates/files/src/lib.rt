@@ -1,4 +1,4 @@
-// A file's numbers from its label, the good records of its extent, and the number of its blocks; refusals 13 to 18.
+// A file's numbers from its label, the good records of its extent, and the number of its blocks; refusals 13, 14, 17 and 18.
 use extents::Condition;
 use extents::Cursor;
 use extents::count_good;
@@ -19,21 +19,20 @@ use standard::Counted;
 use standard::Geometry;
 use standard::Judged;
 use standard::Refusal;
-use standard::wide;
 use volume::has_label;
 use volume::judge;
 use volume::refusal_of;
 ghost use mathlib.Core.Path.{_≡_};
-ghost use mathlib.Core.Bool.{true, cond};
+ghost use mathlib.Core.Bool.{true, false, cond};
 ghost use lib.Dec.{leb};
 ghost use Prim.Native.Nat.{_-_, _<_, _≤_};
 ghost use lib.ListN.{length};
 ghost use Rattle.standard.specs.Refusals.{refuse};
-ghost use Rattle.standard.specs.Labels.{blockLength};
 ghost use Rattle.standard.specs.Judgement.{judged};
-ghost use Rattle.standard.specs.Files.{recordsToBlock, countIn, counted};
+ghost use Rattle.standard.specs.Files.{addressesFrom, recordsToBlock, countIn, counted};
 ghost use Rattle.extents.specs.Cursors.{legalOn};
-ghost use Rattle.files.specs.Numbers.{numbersOf, endedBy, tallied, openedIn};
+ghost use Rattle.extents.specs.Surveys.{surveyed};
+ghost use Rattle.files.specs.Numbers.{numbersOf, endedBy, tallied};
 
 // A refusal with one place.
 fn refused(number: u8, place: u64) -> Counted
@@ -118,20 +117,13 @@ fn ended(n: Numbers, slot: u64, good: u64) -> Counted
     Counted::Count(blocks)
 }
 
-// Refusals 17 and 18, or the number of blocks. One walk finds what is wrong; where it finds no defective record, good records need no counting.
-fn tally(g: Geometry, image: &[u8], n: Numbers, slot: u64) -> Counted
-    requires { ⌜ (0 < n .m) × (n .before ≤ n .size) × (n .size < 4294967296) × (legalOn g (n .size) (n .start) ≡ true) ⌝ }
+// Refusals 17 and 18, or the number of blocks, from what one walk over the extent found: where it found no defective record, good records need no counting.
+// (Inner: reading asks it, to walk once.)
+pub fn tally_by(g: Geometry, image: &[u8], n: Numbers, slot: u64, found: Condition) -> Counted
+    requires { ⌜ (0 < n .m) × (n .before ≤ n .size) × (n .size < 4294967296) × (legalOn g (n .size) (n .start) ≡ true) × (found ≡ surveyed g (now image) false (addressesFrom g (n .size) (n .start))) ⌝ }
     ensures { λ r. ⌜ r ≡ tallied g (now (image .entry)) n slot ⌝ }
 {
     let start = n.start;
-    let found = survey(
-        g,
-        image,
-        Cursor {
-            at: start,
-            left: n.size,
-        },
-    );
     match found {
         Condition::Wrong(ordinal) => refused(17, ordinal),
         Condition::Whole => ended(n, slot, n.before),
@@ -149,6 +141,23 @@ fn tally(g: Geometry, image: &[u8], n: Numbers, slot: u64) -> Counted
     }
 }
 
+// Refusals 17 and 18, or the number of blocks, by one walk.
+fn tally(g: Geometry, image: &[u8], n: Numbers, slot: u64) -> Counted
+    requires { ⌜ (0 < n .m) × (n .before ≤ n .size) × (n .size < 4294967296) × (legalOn g (n .size) (n .start) ≡ true) ⌝ }
+    ensures { λ r. ⌜ r ≡ tallied g (now (image .entry)) n slot ⌝ }
+{
+    let start = n.start;
+    let found = survey(
+        g,
+        image,
+        Cursor {
+            at: start,
+            left: n.size,
+        },
+    );
+    tally_by(g, image, n, slot, found)
+}
+
 // Refusals 13 and 14, then 17 and 18, or the number of blocks: "the count of blocks needs only 13, 14, 17, 18". (Inner: on an accepted volume.)
 pub fn count_in(g: Geometry, image: &[u8], slot: u64) -> Counted
     requires { ⌜ judged (now image) ≡ Judged.Volume g ⌝ }
@@ -160,27 +169,6 @@ pub fn count_in(g: Geometry, image: &[u8], slot: u64) -> Counted
     let h = label_at(g, image, slot);
     if !known_level(h) {
         return refused(14, slot);
-    }
-    tally(g, image, numbers_of(g, h), slot)
-}
-
-// Refusals 13 to 18, or the number of blocks: what a file must pass to be read. (Inner: on an accepted volume.)
-pub fn open_in(g: Geometry, image: &[u8], slot: u64) -> Counted
-    requires { ⌜ judged (now image) ≡ Judged.Volume g ⌝ }
-    ensures { λ r. ⌜ r ≡ openedIn g (now (image .entry)) slot ⌝ }
-{
-    if !has_label(g, image, slot) {
-        return refused(13, 0);
-    }
-    let h = label_at(g, image, slot);
-    if !known_level(h) {
-        return refused(14, slot);
-    }
-    if !(wide(h[41]) == 32) {
-        return refused(15, slot);
-    }
-    if !(wide(h[44]) == 32) {
-        return refused(16, slot);
     }
     tally(g, image, numbers_of(g, h), slot)
 }

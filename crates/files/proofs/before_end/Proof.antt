@@ -1,6 +1,5 @@
 -- Assumes nothing.
 use borrow.Author.Tests.{le-leb, lt-leb}
-use native.Mathlib.Omega.{arith}
 use borrow.Author.Needs.{needs}
 use Rattle.files.proofs.before_end.Statement.{statement}
 use Rattle.files.proofs.before_end.Tie as tie

@@ -1,11 +1,5 @@
--- What the walk tells decides.
+-- One walk, then what it told.
 -- Assumes nothing.
-use mathlib.Core.Path.{sym, ap, _∙_}
-use native.Mathlib.Omega.{arith}
-use denote.Ref.{now}
-use Rattle.extents.proofs.CursorLaws.{legal-fewer}
-use Rattle.files.specs.Numbers.{endedBy}
-use Rattle.files.proofs.Laws.{tally-by}
 use borrow.Author.Needs.{needs}
 use Rattle.files.proofs.tally.Statement.{statement}
 use Rattle.files.proofs.tally.Tie as tie
@@ -13,57 +7,11 @@ use Rattle.files.proofs.tally.Tie as tie
 survey-requires : tie.Need-survey-requires
 survey-requires c κs = search needs
 
-enum-known-found : tie.Need-enum-known-found
-enum-known-found c = search needs
-
-refused-requires : tie.Need-refused-requires
-refused-requires c κs = search needs
-
-enum-told : tie.Need-enum-told
-enum-told c = search needs
-
-ended-requires : tie.Need-ended-requires
-ended-requires c κs = search needs
-
-enum-told-2 : tie.Need-enum-told-2
-enum-told-2 c = search needs
-
-count-good-requires : tie.Need-count-good-requires
-count-good-requires c κs =
-    let x = c .before .before .before .before .before .args in
-    let p = c .before .before .before .before .before .pre in
-    (legal-fewer (x .g) (x .n .before) (x .n .size) (x .n .start) (p .1) (p .3), omega (arith, p .1, p .2))
-
-ended-requires-2 : tie.Need-ended-requires-2
-ended-requires-2 c κs = search needs
+tally-by-requires : tie.Need-tally-by-requires
+tally-by-requires c κs = search needs
 
 returns : tie.Need-returns
-returns c =
-    let x = c .before .before .before .before .before .before .before .args in
-    c .refused .ensures ∙ sym (tally-by (x .g) (now (x .image)) (x .n) (x .slot) _ (sym (c .before .before .before .before .survey .ensures) ∙ c .before .before .found .given .1))
-
-returns-2 : tie.Need-returns-2
-returns-2 c =
-    let x = c .before .before .before .before .before .before .args in
-    c .ended .ensures ∙ sym (tally-by (x .g) (now (x .image)) (x .n) (x .slot) _ (sym (c .before .before .before .survey .ensures) ∙ c .before .enum-told .given .1))
-
-returns-3 : tie.Need-returns-3
-returns-3 c =
-    let x = c .before .before .before .before .before .before .before .args in
-    c .ended2 .ensures ∙ ap (endedBy (x .n) (x .slot)) (c .before .count-good .ensures) ∙ sym (tally-by (x .g) (now (x .image)) (x .n) (x .slot) _ (sym (c .before .before .before .before .survey .ensures) ∙ c .before .before .enum-told2 .given .1))
+returns c = search needs
 
 pub tally-spec : {M : Type 1} → statement M
-tally-spec =
-    tie.close
-    (tie.spec
-    survey-requires
-    enum-known-found
-    refused-requires
-    enum-told
-    ended-requires
-    enum-told-2
-    count-good-requires
-    ended-requires-2
-    returns
-    returns-2
-    returns-3)
+tally-spec = tie.close (tie.spec survey-requires tally-by-requires returns)

@@ -1,0 +1,189 @@
+// Opening a file: its numbers, or the refusal 13 to 18 that shuts it; and where its blocks are. Everything here is inner: the layers above call it on an
+// accepted volume.
+use extents::Condition;
+use extents::Cursor;
+use extents::nth_good;
+use extents::skip_good;
+use extents::survey;
+use files::numbers_of;
+use files::tally_by;
+use labels::Form;
+use labels::form_of;
+use labels::is_blocked;
+use labels::known_level;
+use layout::label_at;
+use standard::Counted;
+use standard::Geometry;
+use standard::Judged;
+use standard::Place;
+use standard::Refusal;
+use standard::wide;
+use volume::has_label;
+ghost use mathlib.Core.Path.{_≡_};
+ghost use mathlib.Core.Bool.{true};
+ghost use mathlib.Core.List.{[], _∷_};
+ghost use Prim.Native.Nat.{_+_, _<_, _≤_};
+ghost use lib.ListN.{length};
+ghost use Rattle.standard.specs.Refusals.{refuse, inOrder};
+ghost use Rattle.standard.specs.Layout.{labelAt};
+ghost use Rattle.standard.specs.Labels.{knownLevel};
+ghost use Rattle.standard.specs.Slots.{hasLabel};
+ghost use Rattle.standard.specs.Files.{refusal17, refusal18};
+ghost use Rattle.standard.specs.Records.{aligned};
+ghost use Rattle.standard.specs.Judgement.{judged};
+ghost use Rattle.labels.specs.Forms.{formatFor};
+ghost use Rattle.opening.specs.Opened.{isWhole, fileNumbers, openOr, openingIn, Opened, sizeAt, insideBy, Seated};
+
+// The numbers of an opened file: its volume's, its slot, a cursor on its extent's start, whether every record of the extent is good; "40 space or F (fixed),
+// V, S"; "63 space, or B for blocked"; m, "blocks take m good records in turn"; B, R and U by the document's letters; and the number of its blocks.
+pub struct FileNumbers {
+    pub g: Geometry,
+    pub slot: u64,
+    pub first: Cursor,
+    pub whole: bool,
+    pub form: Form,
+    pub blocked: bool,
+    pub m: u64,
+    pub B: u64,
+    pub R: u64,
+    pub U: u64,
+    pub count: u64,
+}
+
+// One of the refusals 13 to 18, or the file's numbers.
+pub enum Opening {
+    Shut(Refusal),
+    Open(FileNumbers),
+}
+
+// A refusal with one place.
+fn shut(number: u8, place: u64) -> Opening
+    ensures { λ r. ⌜ r ≡ Opening.Shut (refuse number place) ⌝ }
+{
+    Opening::Shut(Refusal {
+        number: number,
+        first: place,
+        second: 0,
+        third: 0,
+    })
+}
+
+// Whether a walk found every record good.
+fn is_whole(found: Condition) -> bool
+    ensures { λ r. ⌜ r ≡ isWhole found ⌝ }
+{
+    match found {
+        Condition::Wrong(_) => false,
+        Condition::Whole => true,
+        Condition::Holed => false,
+    }
+}
+
+// Refusals 17 and 18, or the numbers, of a label `h` that passed 13 and 14. One walk over the extent tells both.
+fn concluded(g: Geometry, image: &[u8], slot: u64, h: &[u8]) -> Opening
+    requires { ⌜ (judged (now image) ≡ Judged.Volume g) × (hasLabel g (now image) slot ≡ true) × (knownLevel (labelAt g (now image) slot) ≡ true) × (now h ≡ labelAt g (now image) slot) × (length (now h) ≡ 128) ⌝ }
+    ensures { λ r. ⌜ r ≡ openOr (inOrder (refusal17 g (now (image .entry)) (labelAt g (now (image .entry)) slot) ∷ refusal18 g (now (image .entry)) (labelAt g (now (image .entry)) slot) slot ∷ [])) (fileNumbers g (now (image .entry)) slot) ⌝ }
+{
+    let n = numbers_of(g, h);
+    let start = n.start;
+    let first = Cursor {
+        at: start,
+        left: n.size,
+    };
+    let found = survey(g, image, first);
+    let counted = tally_by(g, image, n, slot, found);
+    match counted {
+        Counted::Uncounted(r) => Opening::Shut(r),
+        Counted::Count(count) => Opening::Open(FileNumbers {
+            g: g,
+            slot: slot,
+            first: first,
+            whole: is_whole(found),
+            form: form_of(h),
+            blocked: is_blocked(h),
+            m: n.m,
+            B: n.B,
+            R: n.R,
+            U: n.U,
+            count: count,
+        }),
+    }
+}
+
+// Refusals 13 to 18, or the numbers: "Reading: 13-19", of which a place that is asked decides 19.
+pub fn open_in(g: Geometry, image: &[u8], slot: u64) -> Opening
+    requires { ⌜ judged (now image) ≡ Judged.Volume g ⌝ }
+    ensures { λ r. ⌜ r ≡ openingIn g (now (image .entry)) slot ⌝ }
+{
+    if !has_label(g, image, slot) {
+        return shut(13, 0);
+    }
+    let h = label_at(g, image, slot);
+    if !known_level(h) {
+        return shut(14, slot);
+    }
+    if !(wide(h[41]) == 32) {
+        return shut(15, slot);
+    }
+    if !(wide(h[44]) == 32) {
+        return shut(16, slot);
+    }
+    concluded(g, image, slot, h)
+}
+
+// "A block's content is its first B bytes; B-U in the last." (Block b has a next number to compare with the count.)
+pub fn content_size(f: FileNumbers, b: u64) -> u64
+    requires { ⌜ (f .U ≤ f .B) × (b < 18446744073709551615) ⌝ }
+    ensures { λ r. ⌜ r ≡ sizeAt f b ⌝ }
+{
+    let size = f.B;
+    if b + 1 == f.count {
+        return size - f.U;
+    }
+    size
+}
+
+// "F offsets are multiples of R"
+fn is_aligned(form: Form, R: u64, offset: u64) -> bool
+    requires { ⌜ (form ≡ Form.Fixed → 1 ≤ R) ⌝ }
+    ensures { λ r. ⌜ r ≡ aligned (formatFor form) R offset ⌝ }
+{
+    match form {
+        Form::Fixed => offset % R == 0,
+        Form::Variable => true,
+        Form::Spanned => true,
+    }
+}
+
+// "Any place in the file may be asked; F offsets are multiples of R; offset at most the content; block = count only with offset 0"
+pub fn in_file(f: FileNumbers, pl: Place) -> bool
+    requires { ⌜ (f .U ≤ f .B) × (f .form ≡ Form.Fixed → 1 ≤ f .R) ⌝ }
+    ensures { λ r. ⌜ r ≡ insideBy f pl ⌝ }
+{
+    let block = pl.block;
+    let offset = pl.offset;
+    let count = f.count;
+    let form = f.form;
+    if block < count {
+        let size = content_size(f, block);
+        let right = is_aligned(form, f.R, offset);
+        return (offset <= size) & right;
+    }
+    (block == count) & (offset == 0)
+}
+
+// A cursor on the first record of block b, or behind the last: "blocks take m good records in turn". By arithmetic where every record is good.
+pub fn block_start(image: &[u8], f: FileNumbers, b: u64) -> Cursor
+    requires { ⌜ (Opened (now image) f) × (b ≤ f .count) ⌝ }
+    ensures { λ r. ⌜ Seated (now (image .entry)) f b r ⌝ }
+{
+    nth_good(f.g, image, f.first, f.whole, b * f.m)
+}
+
+// From a cursor on block b to the next block.
+pub fn next_start(image: &[u8], f: FileNumbers, b: u64, c: Cursor) -> Cursor
+    requires { ⌜ (Opened (now image) f) × (Seated (now image) f b c) ⌝ }
+    ensures { λ r. ⌜ Seated (now (image .entry)) f (b + 1) r ⌝ }
+{
+    skip_good(f.g, image, c, f.m)
+}
