@@ -1,0 +1,238 @@
+// The bytes of a file's good records in turn, read where they stand in the image. A place is a cursor and a byte of the record under it; what stands from there
+// on is a list of bytes, and the functions here read it, pass over it, copy it, and ask whether it is fill. Everything here is inner: the layers above call it on
+// extents of an accepted volume.
+use extents::Cursor;
+use extents::next_good;
+use extents::skip_good;
+use fields::wide16;
+use layout::check_failed;
+use layout::kind_offset;
+use layout::ordinal_of;
+use standard::Geometry;
+use standard::byte_at;
+use standard::wide;
+ghost use mathlib.Core.Path.{_≡_};
+ghost use mathlib.Core.Bool.{true};
+ghost use Prim.Native.Nat.{_+_, _<_, _≤_};
+ghost use lib.ListN.{length, getD, take, drop};
+ghost use lib.Seq.{paste};
+ghost use Rattle.standard.specs.Layout.{bodyOffset};
+ghost use Rattle.standard.specs.Addresses.{ordinal};
+ghost use Rattle.standard.specs.Pieces.{isFill};
+ghost use Rattle.standard.specs.Files.{anyFailed};
+ghost use Rattle.extents.specs.Cursors.{legalAt, standing};
+ghost use Rattle.blocks.specs.Streams.{Fits, stream, fiveOf};
+
+// A cursor in an extent, and a byte of the record under it.
+pub struct Spot {
+    pub c: Cursor,
+    pub i: u64,
+}
+
+// Five bytes: as many as a control word has at most.
+pub struct Five {
+    pub a: u64,
+    pub b: u64,
+    pub c: u64,
+    pub d: u64,
+    pub e: u64,
+}
+
+// Where byte i of the record under a cursor is in the image. "Each is one byte of kind, then a body."
+fn byte_offset(g: Geometry, c: Cursor, i: u64) -> u64
+    requires { ⌜ (legalAt g c ≡ true) × (1 ≤ c .left) × (i < 65536) ⌝ }
+    ensures { λ r. ⌜ (r ≡ bodyOffset g (ordinal g (c .at)) + i) × (r < 1125899906842624) ⌝ }
+{
+    kind_offset(g, ordinal_of(g, c.at)) + 1 + i
+}
+
+// The byte at a place, 00 behind the last record.
+fn here(g: Geometry, image: &[u8], c: Cursor, i: u64) -> u64
+    requires { ⌜ (Fits g (now image)) × (legalAt g c ≡ true) × (i < g .P) ⌝ }
+    ensures { λ r. ⌜ (r ≡ getD (stream g (now (image .entry)) c i) 0 0) × (r < 256) ⌝ }
+{
+    if c.left == 0 {
+        return 0;
+    }
+    byte_at(image, byte_offset(g, c, i) as usize)
+}
+
+// Onward k bytes: most often inside the record, where nothing is walked or divided.
+pub fn onward(g: Geometry, image: &[u8], c: Cursor, i: u64, k: u64) -> Spot
+    requires { ⌜ (Fits g (now image)) × (legalAt g c ≡ true) × (i < 4294967296) × (k < 4294967296) ⌝ }
+    ensures { λ r. ⌜ (stream g (now (image .entry)) (r .c) (r .i) ≡ drop k (stream g (now (image .entry)) c i)) × (legalAt g (r .c) ≡ true) × (r .i < g .P) × (r .c .left ≤ c .left) ⌝ }
+{
+    let p = wide16(g.P);
+    let to = i + k;
+    if to < p {
+        return Spot { c: c, i: to };
+    }
+    let n = to / p;
+    let d = skip_good(g, image, c, n);
+    Spot { c: d, i: to % p }
+}
+
+// The byte at offset k from a place.
+fn peek(g: Geometry, image: &[u8], c: Cursor, i: u64, k: u64) -> u64
+    requires { ⌜ (Fits g (now image)) × (legalAt g c ≡ true) × (i < 4294967296) × (k < 4294967296) ⌝ }
+    ensures { λ r. ⌜ (r ≡ getD (stream g (now (image .entry)) c i) k 0) × (r < 256) ⌝ }
+{
+    let s = onward(g, image, c, i, k);
+    here(g, image, s.c, s.i)
+}
+
+// Five bytes of the image.
+fn five_at(image: &[u8], o: usize) -> Five
+    requires { ⌜ o + 5 ≤ length (now image) ⌝ }
+    ensures { λ r. ⌜ (r ≡ fiveOf (drop o (now (image .entry)))) × (r .a < 256) × (r .b < 256) × (r .c < 256) × (r .d < 256) × (r .e < 256) ⌝ }
+{
+    Five {
+        a: wide(image[o]),
+        b: wide(image[o + 1]),
+        c: wide(image[o + 2]),
+        d: wide(image[o + 3]),
+        e: wide(image[o + 4]),
+    }
+}
+
+// The first five bytes from a place on: in one run where they stand in one record, else byte by byte.
+pub fn first_five(g: Geometry, image: &[u8], c: Cursor, i: u64) -> Five
+    requires { ⌜ (Fits g (now image)) × (legalAt g c ≡ true) × (i < g .P) ⌝ }
+    ensures { λ r. ⌜ (r ≡ fiveOf (stream g (now (image .entry)) c i)) × (r .a < 256) × (r .b < 256) × (r .c < 256) × (r .d < 256) × (r .e < 256) ⌝ }
+{
+    let p = wide16(g.P);
+    if 0 < c.left {
+        if i + 5 <= p {
+            return five_at(image, byte_offset(g, c, i) as usize);
+        }
+    }
+    Five {
+        a: peek(g, image, c, i, 0),
+        b: peek(g, image, c, i, 1),
+        c: peek(g, image, c, i, 2),
+        d: peek(g, image, c, i, 3),
+        e: peek(g, image, c, i, 4),
+    }
+}
+
+// Whether n bytes of the image are fill.
+fn fill_run(image: &[u8], from: u64, n: u64) -> bool
+    requires { ⌜ from + n ≤ length (now image) ⌝ }
+    ensures { λ r. ⌜ r ≡ isFill (take n (drop from (now (image .entry)))) ⌝ }
+{
+    let to = (from + n) as usize;
+    let mut i = from as usize;
+    while i < to {
+        if wide(image[i]) != 0 {
+            return false;
+        }
+        i += 1;
+    }
+    true
+}
+
+// "Fill is byte 00." Whether the bytes from a place on are fill, so many as are asked or as there are: record by record, and none is walked to behind the last
+// one that is asked.
+pub fn all_fill(g: Geometry, image: &[u8], from: Cursor, first: u64, count: u64) -> bool
+    requires { ⌜ (Fits g (now image)) × (legalAt g from ≡ true) × (first < g .P) × (count < 65536) ⌝ }
+    ensures { λ r. ⌜ r ≡ isFill (take count (stream g (now (image .entry)) from first)) ⌝ }
+{
+    let p = wide16(g.P);
+    let mut c = from;
+    let mut i = first;
+    let mut n = count;
+    while p - i < n {
+        if c.left == 0 {
+            return true;
+        }
+        let k = p - i;
+        if !fill_run(image, byte_offset(g, c, i), k) {
+            return false;
+        }
+        c = next_good(g, image, c);
+        i = 0;
+        n -= k;
+    }
+    if c.left == 0 {
+        return true;
+    }
+    fill_run(image, byte_offset(g, c, i), n)
+}
+
+// n bytes of the image, laid into the output at a place.
+fn copy_run(image: &[u8], from: u64, out: &mut [u8], at: u64, n: u64)
+    requires { ⌜ (from + n ≤ length (now image)) × (at + n ≤ length (now out)) ⌝ }
+    ensures { λ r. ⌜ now (out .exit) ≡ paste (now (out .entry)) at (drop from (now (image .entry))) n ⌝ }
+{
+    let mut i = 0;
+    while i < n {
+        out[(at + i) as usize] = image[(from + i) as usize];
+        i += 1;
+    }
+}
+
+// The bytes from a place on, laid into the output: record by record, as in `all_fill`.
+pub fn copy(
+    g: Geometry,
+    image: &[u8],
+    from: Cursor,
+    first: u64,
+    out: &mut [u8],
+    to: u64,
+    count: u64,
+)
+    requires { ⌜ (Fits g (now image)) × (legalAt g from ≡ true) × (first < g .P) × (count < 65536) × (count ≤ length (stream g (now image) from first)) × (to + count ≤ length (now out)) × (to < 4294967296) ⌝ }
+    ensures { λ r. ⌜ now (out .exit) ≡ paste (now (out .entry)) to (stream g (now (image .entry)) from first) count ⌝ }
+{
+    if count == 0 {
+        return;
+    }
+    let p = wide16(g.P);
+    let mut c = from;
+    let mut i = first;
+    let mut at = to;
+    let mut n = count;
+    while p - i < n {
+        let k = p - i;
+        copy_run(image, byte_offset(g, c, i), out, at, k);
+        c = next_good(g, image, c);
+        i = 0;
+        at += k;
+        n -= k;
+    }
+    copy_run(image, byte_offset(g, c, i), out, at, n);
+}
+
+// Whether the record under a cursor is check-failed; there may be none.
+fn failed_under(g: Geometry, image: &[u8], c: Cursor) -> bool
+    requires { ⌜ legalAt g c ≡ true ⌝ }
+    ensures { λ r. ⌜ r ≡ anyFailed g (now (image .entry)) (take 1 (standing g (now (image .entry)) c)) ⌝ }
+{
+    if c.left == 0 {
+        return false;
+    }
+    check_failed(g, image, ordinal_of(g, c.at))
+}
+
+// "A lost block contains a check-failed record." Whether one of the next m good records is; none is walked to behind the m-th.
+pub fn any_failed(g: Geometry, image: &[u8], from: Cursor, m: u64) -> bool
+    requires { ⌜ legalAt g from ≡ true ⌝ }
+    ensures { λ r. ⌜ r ≡ anyFailed g (now (image .entry)) (take m (standing g (now (image .entry)) from)) ⌝ }
+{
+    if m == 0 {
+        return false;
+    }
+    let mut c = from;
+    let mut n = m;
+    while 1 < n {
+        if c.left == 0 {
+            return false;
+        }
+        if failed_under(g, image, c) {
+            return true;
+        }
+        c = next_good(g, image, c);
+        n -= 1;
+    }
+    failed_under(g, image, c)
+}
