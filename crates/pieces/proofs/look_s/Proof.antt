@@ -1,0 +1,54 @@
+-- `look_s` meets its contract.
+-- Assumes nothing.
+use mathlib.Core.Path.{_∙_, ap}
+use native.Mathlib.Omega.{arith}
+use denote.Ref.{now}
+use Rattle.blocks.specs.Streams.{stream}
+use Rattle.pieces.specs.Looks.{partS}
+use Rattle.pieces.proofs.WordLaws.{s-short, s-zero, s-word}
+use borrow.Author.Needs.{needs}
+use Rattle.pieces.proofs.look_s.Statement.{statement}
+use Rattle.pieces.proofs.look_s.Tie as tie
+
+fill-only-requires : tie.Need-fill-only-requires
+fill-only-requires c κs = search needs
+
+returns : tie.Need-returns
+returns c = let x = c .before .before .before .args in c .fill-only .ensures ∙ s-short (x .n) (stream (x .g) (now (x .image)) (x .c) (x .i)) (omega arith) (omega arith)
+
+first-five-requires : tie.Need-first-five-requires
+first-five-requires c κs = search needs
+
+fill-only-requires-2 : tie.Need-fill-only-requires-2
+fill-only-requires-2 c κs = search needs
+
+returns-2 : tie.Need-returns-2
+returns-2 c =
+    let x = c .before .before .before .before .before .before .args in
+    let w = c .before .before .before .first-five in
+    c .fill-only2 .ensures ∙ s-zero (x .n) (stream (x .g) (now (x .image)) (x .c) (x .i)) (omega arith) (omega arith) (w .result) (w .ensures .0) (omega arith)
+
+four-digits-requires : tie.Need-four-digits-requires
+four-digits-requires c κs = search needs
+
+sized-s-requires : tie.Need-sized-s-requires
+sized-s-requires c κs = search needs
+
+returns-3 : tie.Need-returns-3
+returns-3 c =
+    let x = c .before .before .before .before .before .before .before .args in
+    let w = c .before .before .before .before .first-five in
+    c .sized-s .ensures ∙ (ap (partS (x .n) (w .result .a)) (c .before .four-digits .ensures) ∙ s-word (x .n) (stream (x .g) (now (x .image)) (x .c) (x .i)) (omega arith) (omega arith) (w .result) (w .ensures .0) (λ z. omega arith))
+
+pub look-s-spec : {M : Type 1} → statement M
+look-s-spec =
+    tie.close
+    (tie.spec
+    fill-only-requires
+    returns
+    first-five-requires
+    fill-only-requires-2
+    returns-2
+    four-digits-requires
+    sized-s-requires
+    returns-3)
