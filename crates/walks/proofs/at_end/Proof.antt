@@ -1,0 +1,28 @@
+-- The end of the file, by where the reader stands.
+-- Assumes nothing.
+use mathlib.Core.Path.{sym, ap}
+use Rattle.walks.specs.Stands.{endedBy}
+use borrow.Author.Needs.{needs}
+use Rattle.walks.proofs.at_end.Statement.{statement}
+use Rattle.walks.proofs.at_end.Tie as tie
+
+enum-told : tie.Need-enum-told
+enum-told c = search needs
+
+enum-told-2 : tie.Need-enum-told-2
+enum-told-2 c = search needs
+
+enum-known-s : tie.Need-enum-known-s
+enum-known-s c = search needs
+
+returns : tie.Need-returns
+returns c = search needs
+
+returns-2 : tie.Need-returns-2
+returns-2 c = search needs
+
+returns-3 : tie.Need-returns-3
+returns-3 c = sym (ap endedBy (c .before .s .given .1))
+
+pub at-end-spec : {M : Type 1} → statement M
+at-end-spec = tie.close (tie.spec enum-told enum-told-2 enum-known-s returns returns-2 returns-3)
