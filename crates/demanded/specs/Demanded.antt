@@ -1,0 +1,251 @@
+-- THE DEMANDS REACH THE CODE, for a reader who proves nothing. The promises of crates/promises, Demands, speak of the definitions `readAnswer` and
+-- `outputAfter`. The contracts of the functions that read say no more than this: the answer is `readAnswer`, and the output afterwards is `outputAfter`. Here
+-- the promises are said again of any function that meets such a contract, whatever its code; and the wrong programs that document 01 names are shown to meet
+-- none. The lines behind `=` only name the proof. `A → B`: if A then B; `A × B`: both; `A → ⊥`: not A.
+-- Assumes nothing.
+use Prim.Native.Nat.{ℕ, zero, suc, _*_, _≤_}
+use mathlib.Core.Path.{_≡_, refl, sym, ap, subst, _∙_}
+use mathlib.Core.Bool.{Bool, true}
+use mathlib.Core.List.{List, [], _∷_, _++_, map, List·Memᴰ}
+use lib.ListN.{length, take, drop}
+use Rattle.standard.specs.Characters.{bytes}
+use Rattle.standard.specs.Layout.{indexSectors, labelAt}
+use Rattle.standard.specs.Judgement.{judged}
+use Rattle.standard.specs.Files.{extent, blockCount, openRefusal, fileIn}
+use Rattle.standard.specs.Records.{Mode, plain, salvage, Record, rec, end, listed, inFile}
+use Rattle.standard.specs.Places.{start, endPlace}
+use Rattle.standard.specs.Pieces.{ahead}
+use Rattle.standard.specs.Reading.{readAnswer, outputAfter}
+use Rattle.standard.specs.declared.Geometry.{Geometry}
+use Rattle.standard.specs.declared.Place.{Place}
+use Rattle.standard.specs.declared.Refusal.{Refusal}
+use Rattle.standard.specs.declared.Answer.{Answer}
+use Rattle.standard.specs.declared.Answer.the-variants.{Unanswered, Gap, End, Record as RecordOf}
+use Rattle.standard.specs.declared.Checked.the-variants.{Passed}
+use Rattle.standard.specs.declared.Judged.the-variants.{Refused, Volume}
+use Rattle.promises.specs.Basics.{never}
+use Rattle.promises.specs.Refusing.{Exactly, First}
+use Rattle.promises.specs.ReadingRefused.{readList, LostIn}
+use Rattle.promises.specs.ReadingLaws.{bodyOf}
+use Rattle.promises.specs.Following.{Heard, told, hole, done, refused, onward, following, heard, heardIn, Fits}
+use Rattle.promises.specs.AnyPlace.{listedFrom}
+use Rattle.promises.specs.Sectors.{AgreeOn, sectorOf}
+use Rattle.promises.specs.Failing.{Failed, Spares, ReadsWhole, gone, expected}
+use Rattle.promises.specs.Failable.{failedAt}
+use Rattle.promises.specs.PlainFailed.{FirstGone, NoneGone, cutAt}
+use Rattle.promises.specs.Runs.{AfterDropped}
+use Rattle.promises.specs.Demands.{reading-refused, file-call-refused, refused-reading-stays, gap-stays, end-stays, record-stays, reading-gives, reading-gives-from, record-leads, gap-leads, end-leads, salvage-gives, plain-gives, never-joined, joined-rightly, locality, reading-determined}
+use Rattle.promises.specs.Instances.{image, output, geometry, computed}
+
+-- WHAT A FUNCTION THAT READS DOES, as its caller sees it: it is given an image, a slot, a place and an output, and there is then an answer, and the output as
+-- it is left. (A function of the code takes bytes and numbers of 64 bits. Of other lists and numbers, which nobody can lend it and which it never hands out,
+-- it may be thought to answer as the definitions do: so it is a `Reader`, and what is said of one holds of it.)
+pub record Outcome : Type 0 where
+  pub answer : Answer
+  pub after : List ℕ
+
+abbrev pub Reader : Type 0
+Reader = List ℕ → ℕ → Place → List ℕ → Outcome
+
+-- IT MEETS THE CONTRACT, of plain reading or of salvage: both parts of it, for every input
+pub record Meets (m : Mode) (r : Reader) : Type 0 where
+  pub answers : (image : List ℕ) (slot : ℕ) (pl : Place) (out : List ℕ) → r image slot pl out .answer ≡ readAnswer m image slot pl out
+  pub leaves : (image : List ℕ) (slot : ℕ) (pl : Place) (out : List ℕ) → r image slot pl out .after ≡ outputAfter m image slot pl out
+
+-- there is such a function: the definitions themselves
+pub some-meets : (m : Mode) → Meets m (λ image slot pl out. record { answer = readAnswer m image slot pl out; after = outputAfter m image slot pl out })
+some-meets m = record { answers = λ image slot pl out. refl; leaves = λ image slot pl out. refl }
+
+-- WHAT A CALLER HEARS who reads a place with such a function, and then each place that it hands out, at most n times, stopping at End or a refusal. Each
+-- reading is into the same output, as the one before left it.
+unfoldable pub followed : ℕ → Reader → List ℕ → ℕ → List ℕ → Place → List Heard
+followed zero r image slot out pl = []
+followed (suc n) r image slot out pl =
+    onward (r image slot pl out .answer) (r image slot pl out .after) (λ out′ pl′. followed n r image slot out′ pl′)
+
+-- that is what `following` says of the definitions
+onward-same : (a : Answer) (out : List ℕ) (more more′ : List ℕ → Place → List Heard) → ((o : List ℕ) (pl : Place) → more o pl ≡ more′ o pl)
+    → onward a out more ≡ onward a out more′
+onward-same (Unanswered x) out more more′ h = refl
+onward-same (RecordOf n pl) out more more′ h = ap (λ (hs : List Heard). told (take n out) ∷ hs) (h out pl)
+onward-same (Gap pl) out more more′ h = ap (λ (hs : List Heard). onward (Gap pl) out (λ o p. hs)) (h out pl)
+onward-same (End pl) out more more′ h = refl
+
+pub followed-is : (m : Mode) (r : Reader) → Meets m r → (n : ℕ) (image : List ℕ) (slot : ℕ) (out : List ℕ) (pl : Place)
+    → followed n r image slot out pl ≡ following n m image slot out pl
+unfolding followed following
+followed-is m r meets zero image slot out pl = refl
+followed-is m r meets (suc n) image slot out pl =
+    ap (λ (a : Answer). onward a (r image slot pl out .after) (λ out′ pl′. followed n r image slot out′ pl′)) (meets .answers image slot pl out)
+    ∙ ap (λ (o : List ℕ). onward (readAnswer m image slot pl out) o (λ out′ pl′. followed n r image slot out′ pl′)) (meets .leaves image slot pl out)
+    ∙ onward-same (readAnswer m image slot pl out) (outputAfter m image slot pl out) _ _ (λ o p. followed-is m r meets n image slot o p)
+
+module _ (m : Mode) (r : Reader) (meets : Meets m r) where
+  -- ======== DEMAND 1
+  module _ (image : List ℕ) (slot : ℕ) (pl : Place) (out : List ℕ) where
+    agreed : (a : Answer) → r image slot pl out .answer ≡ a → readAnswer m image slot pl out ≡ a
+    agreed a h = sym (meets .answers image slot pl out) ∙ h
+
+    -- "A file call stops at the first refusal of the volume."
+    pub volume-stops-it : (x : Refusal) → judged image ≡ Refused x → r image slot pl out .answer ≡ Unanswered x
+    volume-stops-it x h = meets .answers image slot pl out ∙ file-call-refused image x h .4 m slot pl out
+
+    -- "Bad input gets the numbered refusal of document 01, exactly when its list says so": of an accepted volume, 13 to 23 by `readList`
+    pub refuses-by-the-list : (g : Geometry) (x : Refusal) → judged image ≡ Volume g
+        → Exactly (r image slot pl out .answer ≡ Unanswered x) (First x (readList m g image slot pl (length out)))
+    refuses-by-the-list g x accepted =
+        let e = reading-refused image g accepted m slot pl out x in
+        ((λ h. e .0 (agreed (Unanswered x) h)), (λ f. meets .answers image slot pl out ∙ e .1 f))
+
+    -- "and a refusal changes no byte of the image or of the output." "Bytes behind a record in the output stay too; gap and End change none."
+    pub refusal-leaves : (x : Refusal) → r image slot pl out .answer ≡ Unanswered x → r image slot pl out .after ≡ out
+    refusal-leaves x h = meets .leaves image slot pl out ∙ refused-reading-stays m image slot pl out x (agreed (Unanswered x) h)
+
+    pub gap-leaves : (next : Place) → r image slot pl out .answer ≡ Gap next → r image slot pl out .after ≡ out
+    gap-leaves next h = meets .leaves image slot pl out ∙ gap-stays m image slot pl out next (agreed (Gap next) h)
+
+    pub end-leaves : (next : Place) → r image slot pl out .answer ≡ End next → r image slot pl out .after ≡ out
+    end-leaves next h = meets .leaves image slot pl out ∙ end-stays m image slot pl out next (agreed (End next) h)
+
+    pub record-leaves : (k : ℕ) (next : Place) → r image slot pl out .answer ≡ RecordOf k next
+        → (k ≤ length out) × (drop k (r image slot pl out .after) ≡ drop k out) × (length (r image slot pl out .after) ≡ length out)
+    record-leaves k next h = rw (meets .leaves image slot pl out) (record-stays m image slot pl out k next (agreed (RecordOf k next) h))
+
+    -- ======== DEMANDS 2 AND 3, of one reading
+    -- every place handed out is in the file; a gap's is behind a lost block; End's is (count, 0)
+    module _ (g : Geometry) (accepted : judged image ≡ Volume g) (next : Place) where
+      pub record-hands-out : (k : ℕ) → r image slot pl out .answer ≡ RecordOf k next → inFile (fileIn g image (labelAt g image slot)) next ≡ true
+      record-hands-out k h = record-leads image g accepted m slot pl out next k (agreed (RecordOf k next) h)
+
+      pub gap-hands-out : r image slot pl out .answer ≡ Gap next
+          → (inFile (fileIn g image (labelAt g image slot)) next ≡ true)
+          × (b : ℕ) × LostIn (fileIn g image (labelAt g image slot)) b × (next ≡ record { block = suc b; offset = 0; mark = true })
+      gap-hands-out h = gap-leads image g accepted m slot pl out next (agreed (Gap next) h)
+
+      pub end-hands-out : r image slot pl out .answer ≡ End next
+          → (inFile (fileIn g image (labelAt g image slot)) next ≡ true) × (next ≡ endPlace (blockCount g image (labelAt g image slot)))
+      end-hands-out h = end-leads image g accepted m slot pl out next (agreed (End next) h)
+
+      -- "No record is ever joined out of two others": its bytes are those of one piece `0`, or of pieces `1`, `2`.., `3` one behind the other, with no lost
+      -- block between
+      pub joins-rightly : (k : ℕ) → r image slot pl out .answer ≡ RecordOf k next
+          → (q : Record) × (take k (r image slot pl out .after) ≡ q .body)
+          × AfterDropped (ahead (fileIn g image (labelAt g image slot) .params) (fileIn g image (labelAt g image slot) .blocks) (pl .block) (pl .offset)) q next
+      joins-rightly k h = rw (meets .leaves image slot pl out) (joined-rightly image g accepted m slot pl out k next (agreed (RecordOf k next) h))
+
+  -- ======== DEMAND 2
+  -- "reading gives exactly the records the standard puts there"; "Any place in the file may be asked"
+  module _ (image : List ℕ) (g : Geometry) (slot : ℕ) (accepted : judged image ≡ Volume g) (opens : openRefusal g image slot ≡ Passed) where
+    pub gives : (n : ℕ) (out : List ℕ)
+        → followed n r image slot out start ≡ heardIn (length out) (take n (listed m (fileIn g image (labelAt g image slot))))
+    gives n out = followed-is m r meets n image slot out start ∙ reading-gives image g slot accepted opens m n out
+
+    pub gives-from : (n : ℕ) (out : List ℕ) (pl : Place) → inFile (fileIn g image (labelAt g image slot)) pl ≡ true
+        → followed n r image slot out pl ≡ heardIn (length out) (take n (listedFrom m (fileIn g image (labelAt g image slot)) pl))
+    gives-from n out pl h = followed-is m r meets n image slot out pl ∙ reading-gives-from image g slot accepted opens m n out pl h
+
+  -- ======== LOCALITY
+  -- "Two accepted images equal in the index cylinder and in one file's extent give equal answers to every reading of that file."
+  pub local : (image image′ : List ℕ) (g g′ : Geometry) (slot : ℕ) → judged image ≡ Volume g → judged image′ ≡ Volume g′
+      → take (indexSectors g * 129) image ≡ take (indexSectors g * 129) image′
+      → AgreeOn g (sectorOf g (extent g (labelAt g image slot))) image image′
+      → (pl : Place) (out : List ℕ) → (r image slot pl out .answer ≡ r image′ slot pl out .answer) × (r image slot pl out .after ≡ r image′ slot pl out .after)
+  local image image′ g g′ slot j j′ index extents pl out =
+      let same = locality image image′ g g′ slot j j′ index extents in (
+        meets .answers image slot pl out ∙ same .0 m pl out ∙ sym (meets .answers image′ slot pl out),
+        meets .leaves image slot pl out ∙ same .1 m pl out ∙ sym (meets .leaves image′ slot pl out),
+      )
+
+  -- ======== DETERMINACY
+  -- "For each input a contract determines the result and every lent byte afterwards, refusals too. Show that any two results it allows are equal"
+  pub determined-by-contract : (r′ : Reader) → Meets m r′ → (image : List ℕ) (slot : ℕ) (pl : Place) (out : List ℕ)
+      → (r image slot pl out .answer ≡ r′ image slot pl out .answer) × (r image slot pl out .after ≡ r′ image slot pl out .after)
+  determined-by-contract r′ meets′ image slot pl out =
+      reading-determined m image slot pl out _ _ _ _ (meets .answers image slot pl out, meets .leaves image slot pl out)
+      (meets′ .answers image slot pl out, meets′ .leaves image slot pl out)
+
+-- ======== DEMAND 3
+-- "After any of a readable file's sectors fail their check": `reader` reads the file whole before (these bodies and End), and the sectors that `hit` names
+-- fail; "salvage gives, in order, every record no block of which is lost, one gap per lost block at its place, nothing more".
+module _ (reader salvager : Reader) (reads : Meets plain reader) (salvages : Meets salvage salvager)
+    (image image′ : List ℕ) (g : Geometry) (slot : ℕ) (bodies : List (List ℕ)) (hit : ℕ → Bool) (accepted : judged image ≡ Volume g)
+    (readings : ℕ) (lent : List ℕ) (readable : followed readings reader image slot lent start ≡ map told bodies ++ (done ∷ []))
+    (fail : Failed g hit image image′) (spares : Spares g hit image (labelAt g image slot)) where
+  whole : ReadsWhole image slot bodies
+  whole = record { readings = readings; out = lent; hears = sym (followed-is plain reader reads readings image slot lent start) ∙ readable }
+
+  pub salvager-gives : (rs : List Record) × (map bodyOf rs ≡ bodies)
+      × ((n : ℕ) (out : List ℕ) → followed n salvager image′ slot out start ≡ heardIn (length out) (take n (expected g hit image (labelAt g image slot) rs)))
+  salvager-gives =
+      let s = salvage-gives image image′ g slot bodies hit accepted whole fail spares in
+      (s .0, s .1, (λ n out. followed-is salvage salvager salvages n image′ slot out start ∙ s .3 n out))
+
+  -- and the plain reader gives the records that end before the first lost block, and then 20 naming it; or, if no block is lost, all records and End. (The
+  -- output has room for every record.)
+  pub reader-gives : (rs : List Record) × (map bodyOf rs ≡ bodies)
+      × ((b : ℕ) → FirstGone (gone g hit image (labelAt g image slot)) (blockCount g image (labelAt g image slot)) b → (n : ℕ) (out : List ℕ)
+      → Fits (length out) (map rec rs) → followed n reader image′ slot out start ≡ take n (map heard (cutAt b rs)))
+      × (NoneGone (gone g hit image (labelAt g image slot)) (blockCount g image (labelAt g image slot)) → (n : ℕ) (out : List ℕ)
+      → Fits (length out) (map rec rs) → followed n reader image′ slot out start ≡ take n (map heard (map rec rs ++ (end ∷ []))))
+  reader-gives =
+      let p = plain-gives image image′ g slot bodies hit accepted whole fail spares in (
+        p .0,
+        p .1,
+        (λ b first n out room. followed-is plain reader reads n image′ slot out start ∙ p .2 .1 b first .answers n out room),
+        (λ none n out room. followed-is plain reader reads n image′ slot out start ∙ p .2 .2 none .answers n out room),
+      )
+
+  -- "No record is ever joined out of two others": whatever the salvager gives as a record was a record of the file before
+  pub joins-none : (n : ℕ) (out body : List ℕ) → List·Memᴰ (told body) (followed n salvager image′ slot out start) → List·Memᴰ body bodies
+  joins-none n out body h =
+      never-joined image image′ g slot bodies hit accepted whole fail spares n out body
+      (subst (λ (hs : List Heard). List·Memᴰ (told body) hs) (followed-is salvage salvager salvages n image′ slot out start) h)
+
+-- ======== WHAT HAS TO BE REJECTED
+-- "These programs have to be rejected: one refusing everything and one naming the same record each time ..; a reader or salvager that gives the first record
+-- and then only End ..; an invented .. gap". Of example 9 of document 01 in an image (`image`, in Instances: bodies of 8, 12 and 3 bytes in three blocks), and
+-- of the same with block 1 lost (`failedAt geometry 9 image`, example 10), any function that meets the contract is heard thus:
+pub reader-heard : (r : Reader) → Meets plain r
+    → followed 4 r image 1 output start ≡ told (bytes "AAAAAAAA") ∷ told (bytes "BBBBBBBBBBBB") ∷ told (bytes "CCC") ∷ done ∷ []
+reader-heard r meets = followed-is plain r meets 4 image 1 output start ∙ computed .1
+
+pub salvager-heard : (r : Reader) → Meets salvage r
+    → followed 4 r (failedAt geometry 9 image) 1 output start ≡ told (bytes "AAAAAAAA") ∷ hole 1 ∷ told (bytes "CCC") ∷ done ∷ []
+salvager-heard r meets = followed-is salvage r meets 4 (failedAt geometry 9 image) 1 output start ∙ computed .2
+
+refused-at-once : (r : Reader) (image : List ℕ) (x : Refusal) → r image 1 start output .answer ≡ Unanswered x
+    → followed 4 r image 1 output start ≡ refused x ∷ []
+unfolding followed
+refused-at-once r image x h =
+    ap (λ (a : Answer). onward a (r image 1 start output .after) (λ out′ pl′. followed 3 r image 1 out′ pl′)) h
+
+-- so that one who is heard otherwise meets no contract. One that refuses everything: it would refuse the start of this file
+module _ (r : Reader) (meets : Meets plain r) where
+  pub no-refusing : (x : Refusal) → r image 1 start output .answer ≡ Unanswered x → ⊥
+  no-refusing x h = let e = sym (reader-heard r meets) ∙ refused-at-once r image x h in never (cc)
+
+  -- one that names the same record each time:
+  pub no-repeating : (body : List ℕ) (more : List Heard) → followed 4 r image 1 output start ≡ told body ∷ told body ∷ more → ⊥
+  no-repeating body more h = let e = sym (reader-heard r meets) ∙ h in never (cc)
+
+  -- one that gives the first record and then only End:
+  pub no-stopping : (body : List ℕ) → followed 4 r image 1 output start ≡ told body ∷ done ∷ [] → ⊥
+  no-stopping body h = let e = sym (reader-heard r meets) ∙ h in never (cc)
+
+module _ (r : Reader) (meets : Meets salvage r) where
+  pub no-refusing-salvage : (x : Refusal) → r (failedAt geometry 9 image) 1 start output .answer ≡ Unanswered x → ⊥
+  no-refusing-salvage x h = let e = sym (salvager-heard r meets) ∙ refused-at-once r (failedAt geometry 9 image) x h in never (cc)
+
+  pub no-repeating-salvage : (body : List ℕ) (more : List Heard) → followed 4 r (failedAt geometry 9 image) 1 output start ≡ told body ∷ told body ∷ more → ⊥
+  no-repeating-salvage body more h = let e = sym (salvager-heard r meets) ∙ h in never (cc)
+
+  pub no-stopping-salvage : (body : List ℕ) → followed 4 r (failedAt geometry 9 image) 1 output start ≡ told body ∷ done ∷ [] → ⊥
+  no-stopping-salvage body h = let e = sym (salvager-heard r meets) ∙ h in never (cc)
+
+-- one that invents a gap: where no block of the file is lost, none is answered, whatever the place
+pub no-inventing : (m : Mode) (r : Reader) → Meets m r → (image : List ℕ) (g : Geometry) (slot : ℕ) → judged image ≡ Volume g
+    → ((b : ℕ) → LostIn (fileIn g image (labelAt g image slot)) b → ⊥)
+    → (pl : Place) (out : List ℕ) (next : Place) → r image slot pl out .answer ≡ Gap next → ⊥
+no-inventing m r meets image g slot accepted none pl out next h =
+    let (inside, b, lost, at) = gap-hands-out m r meets image slot pl out g accepted next h in
+    none b lost
