@@ -6,10 +6,12 @@
  * red zone, which a kernel has to allow around a call.
  *
  * A slice is a pointer and the count of its elements. Every call takes any bytes, of any length, and any numbers: nothing has to be tested first, and
- * nothing is kept after the call. A pointer of a slice is never NULL, not even where the count is 0. No call here changes a byte that it is lent.
+ * nothing is kept after the call. A pointer of a slice is never NULL, not even where the count is 0. No call here changes a byte that it is lent, but
+ * for 'out' of galz_read and galz_salvage, which no other slice of the call may overlap.
  *
- * Every call returns one number. Its top byte is the code: 0 if it was done, else the number of the refusal, 1 to 127. What stands in the 56 bits below
- * depends on the code and the call; the functions at the end take it apart.
+ * Every call returns one number. Its top byte is the code: 0 if it was done, 1 to 127 the number of the refusal; reading and salvage have 128 for a gap
+ * and 129 for the file's end, which are no refusals. What stands in the 56 bits below depends on the code and the call; the functions at the end take it
+ * apart.
  */
 #ifndef GALZERANTA_H
 #define GALZERANTA_H
@@ -46,7 +48,43 @@ galz_u64 galz_count(const galz_u8 *image, galz_u64 image_length, galz_u64 slot);
 galz_u64 galz_free(const galz_u8 *image, galz_u64 image_length);
 
 /*
- * The refusals, with what galz_first gives (and galz_second, for 10). A place that is not named is 0.
+ * Reading a file in a slot, record by record. A place is a block, an offset in its content and a mark, which is set if it is not 0. A file begins at block
+ * 0, offset 0, mark 0. The answer has the place to ask next; so a whole file is read by
+ *
+ *	galz_u64 block = 0, offset = 0, mark = 0, answer;
+ *	while (galz_done(answer = galz_read(image, image_length, slot, block, offset, mark, out, out_length))) {
+ *		use(out, galz_length(answer));
+ *		block = galz_next_block(answer), offset = galz_next_offset(answer), mark = galz_next_mark(answer);
+ *	}
+ *
+ * after which galz_is_end(answer), or it is a refusal. Places are plain numbers: any may be asked, in any order and again, and those that are not in the
+ * file are refused (19). No body is longer than the R of the label, but where R is 0000; an 'out' as long as the image is always enough.
+ *
+ * Done (galz_done): a record. Its body stands in the first galz_length bytes of 'out', the bytes behind it are as they were. The next place is right
+ * behind the record.
+ * End (galz_is_end): no record is left. The next place is the end itself, where the answer is End again.
+ * Refused: 1 to 23. 23 says how long 'out' has to be (galz_first); the same place with a longer one gives the record.
+ * With every answer but a record all of 'out' stays as it was.
+ *
+ * A lost block, one with a physical record whose check failed, is refused (20). The mark plays no part in galz_read.
+ */
+galz_u64 galz_read(const galz_u8 *image, galz_u64 image_length, galz_u64 slot, galz_u64 block, galz_u64 offset, galz_u64 mark, galz_u8 *out,
+		   galz_u64 out_length);
+
+/*
+ * The same of a file with lost blocks: what can be had of it. It never answers 20, but has one answer more.
+ *
+ * Gap (galz_is_gap): a lost block was met, perhaps midway in a spanned record, which is then given up. The next place is the start of the block behind it,
+ * with the mark set. It has to be asked with that mark: only then the rest of a spanned record that began before the gap is dropped in silence, instead of
+ * being refused (21) as a record without its beginning. Each lost block gives one gap.
+ *
+ * The loop of a whole file goes on as long as galz_done(answer) or galz_is_gap(answer).
+ */
+galz_u64 galz_salvage(const galz_u8 *image, galz_u64 image_length, galz_u64 slot, galz_u64 block, galz_u64 offset, galz_u64 mark, galz_u8 *out,
+		      galz_u64 out_length);
+
+/*
+ * The refusals, with what galz_first gives (and galz_second, for 10 and 21). A place that is not named is 0.
  *
  *    1  the image is below 903 bytes
  *    2  sector 05, then 07, has a kind that is not 0                the sector
@@ -62,8 +100,15 @@ galz_u64 galz_free(const galz_u8 *image, galz_u64 image_length);
  *   12  a name of a lower slot                                      the lowest such slot
  *   13  no label in that slot or of that name
  *   14  another level than space, 1, 2                              the slot
+ *   15  HDR1 42 is not space                                        the slot
+ *   16  HDR1 45 is not space                                        the slot
  *   17  an incorrect mark, not F, in the extent                     the sector's ordinal
  *   18  the data end splits a block, or U > 0 with 0 blocks         the slot
+ *   19  the place is not in the file
+ *   20  reading meets a lost block                                  the block
+ *   21  a rule of the content is broken                             the block; second, the offset where record, segment or rest begins
+ *   22  the file ends within a spanned record
+ *   23  'out' is too small                                          the length needed
  */
 
 /* so many bits of a number, from a bit on */
@@ -72,9 +117,10 @@ static inline galz_u64 galz_bits(galz_u64 answer, unsigned from, unsigned count)
 	return (answer >> from) & ((1ULL << count) - 1);
 }
 
-/* any answer: the code; whether the call was done */
+/* any answer: the code; whether the call was done, in reading with a record; whether it was refused */
 static inline unsigned galz_code(galz_u64 answer) { return (unsigned)galz_bits(answer, 56, 8); }
 static inline int galz_done(galz_u64 answer) { return galz_code(answer) == 0; }
+static inline int galz_refused(galz_u64 answer) { return galz_code(answer) >= 1 && galz_code(answer) <= 127; }
 
 /* a refusal: its places */
 static inline galz_u64 galz_first(galz_u64 answer) { return galz_bits(answer, 24, 32); }
@@ -98,6 +144,16 @@ static inline galz_u64 galz_offset(galz_u64 answer) { return galz_bits(answer, 0
 
 /* galz_count, galz_free: the number */
 static inline galz_u64 galz_number(galz_u64 answer) { return galz_bits(answer, 0, 56); }
+
+/* galz_read, galz_salvage: whether the answer is a gap (of galz_salvage alone), or End */
+static inline int galz_is_gap(galz_u64 answer) { return galz_code(answer) == 128; }
+static inline int galz_is_end(galz_u64 answer) { return galz_code(answer) == 129; }
+
+/* a record: its length, 0 for gap and End; record, gap and End: the next place, its mark being 0 or 1 */
+static inline galz_u64 galz_length(galz_u64 answer) { return galz_bits(answer, 32, 24); }
+static inline galz_u64 galz_next_block(galz_u64 answer) { return galz_bits(answer, 16, 16); }
+static inline galz_u64 galz_next_offset(galz_u64 answer) { return galz_bits(answer, 1, 15); }
+static inline galz_u64 galz_next_mark(galz_u64 answer) { return galz_bits(answer, 0, 1); }
 
 #ifdef __cplusplus
 }

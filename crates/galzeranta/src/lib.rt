@@ -1,12 +1,16 @@
 // The C boundary: "The module is C and calls the library with numbers and byte slices". Each export answers with the one number that specs/Packed in
 // crates/standard says of the definition's answer, for any bytes and any numbers; promises' PackedLaws shows that the caller reads the whole answer back
 // from it. include/galzeranta.h is the C side.
+use standard::Place;
 ghost use mathlib.Core.Path.{_≡_};
 ghost use Rattle.standard.specs.Judgement.{judged};
 ghost use Rattle.standard.specs.Finding.{found};
 ghost use Rattle.standard.specs.Files.{counted};
 ghost use Rattle.standard.specs.Free.{freeCount};
-ghost use Rattle.standard.specs.Packed.{packedJudged, packedFound, packedCounted};
+ghost use Rattle.standard.specs.Records.{plain, salvage};
+ghost use Rattle.standard.specs.Reading.{readAnswer, outputAfter};
+ghost use Rattle.standard.specs.Packed.{packedJudged, packedFound, packedCounted, packedAnswer};
+ghost use Rattle.galzeranta.specs.Asked.{placeOf};
 
 // The judgement of a volume.
 #[no_mangle]
@@ -38,4 +42,45 @@ pub extern "C" fn galz_free(image: &[u8]) -> u64
     ensures { λ r. ⌜ r ≡ packedCounted (freeCount (now (image .entry))) ⌝ }
 {
     packing::pack_counted(volume::free(image))
+}
+
+// The place that a caller asks for: a mark is set if it is not 0.
+fn place_of(block: u64, offset: u64, mark: u64) -> Place
+    ensures { λ r. ⌜ r ≡ placeOf block offset mark ⌝ }
+{
+    Place {
+        block: block,
+        offset: offset,
+        mark: !(mark == 0),
+    }
+}
+
+// Plain reading of a place of the file in a slot.
+#[no_mangle]
+pub extern "C" fn galz_read(
+    image: &[u8],
+    slot: u64,
+    block: u64,
+    offset: u64,
+    mark: u64,
+    out: &mut [u8],
+) -> u64
+    ensures { λ r. ⌜ (r ≡ packedAnswer (readAnswer plain (now (image .entry)) slot (placeOf block offset mark) (now (out .entry)))) × (now (out .exit) ≡ outputAfter plain (now (image .entry)) slot (placeOf block offset mark) (now (out .entry))) ⌝ }
+{
+    packing::pack_answer(reading::read(image, slot, place_of(block, offset, mark), out))
+}
+
+// Salvage from a place of the file in a slot.
+#[no_mangle]
+pub extern "C" fn galz_salvage(
+    image: &[u8],
+    slot: u64,
+    block: u64,
+    offset: u64,
+    mark: u64,
+    out: &mut [u8],
+) -> u64
+    ensures { λ r. ⌜ (r ≡ packedAnswer (readAnswer salvage (now (image .entry)) slot (placeOf block offset mark) (now (out .entry)))) × (now (out .exit) ≡ outputAfter salvage (now (image .entry)) slot (placeOf block offset mark) (now (out .entry))) ⌝ }
+{
+    packing::pack_answer(reading::salvage(image, slot, place_of(block, offset, mark), out))
 }
