@@ -1,22 +1,86 @@
-/* Calls JUDGE so many times on the image in a file, and prints the answer of the last call. bench FILE TIMES */
+/*
+ * Calls JUDGE, READ or SALVAGE on the image in a file, so many times over, and prints a number made of all answers of the last time.
+ *
+ *   bench judge IMAGE TIMES
+ *   bench read IMAGE TIMES PLACES       one time is a call at each place of the list ('compare walk'), on slot 1
+ *   bench salvage IMAGE TIMES PLACES
+ */
 #include <stdint.h>
 #include <stdio.h>
 #include <stdlib.h>
+#include <string.h>
 
 uint64_t JUDGE(const uint8_t *image, uint64_t length);
+uint64_t READ(const uint8_t *image, uint64_t length, uint64_t slot, uint64_t block, uint64_t offset, uint64_t mark, uint8_t *out, uint64_t room);
+uint64_t SALVAGE(const uint8_t *image, uint64_t length, uint64_t slot, uint64_t block, uint64_t offset, uint64_t mark, uint8_t *out, uint64_t room);
 
-static uint8_t image[6000000];
+struct place {
+    unsigned long long block, offset, mark;
+};
+
+static uint8_t image[6000000], out[6000000];
+static uint64_t length;
+static struct place places[100000];
+static size_t asked;
+
+static int load_image(const char *name) {
+    FILE *file = fopen(name, "rb");
+    if (!file)
+        return 0;
+    length = fread(image, 1, sizeof image, file);
+    return 1;
+}
+
+/* the first line says how many places there are in all */
+static int load_places(const char *name) {
+    FILE *file = fopen(name, "r");
+    struct place place;
+    if (!file || fscanf(file, "%*u") != 0)
+        return 0;
+    while (asked < sizeof places / sizeof *places && fscanf(file, "%llu %llu %llu", &place.block, &place.offset, &place.mark) == 3)
+        places[asked++] = place;
+    return asked > 0;
+}
+
+/* an answer, and the record's body, mixed into what was before (FNV-1a) */
+static uint64_t mixed(uint64_t before, uint64_t answer) {
+    uint64_t body = answer >> 56 == 0 ? answer >> 32 : 0;
+    for (int shift = 0; shift < 64; shift += 8)
+        before = (before ^ (answer >> shift & 0xFF)) * 0x100000001B3u;
+    for (uint64_t i = 0; i < body && i < sizeof out; i++)
+        before = (before ^ out[i]) * 0x100000001B3u;
+    return before;
+}
+
+static uint64_t judged(long times) {
+    uint64_t answer = 0;
+    for (; times > 0; times--)
+        answer = JUDGE(image, length);
+    return answer;
+}
+
+/* Only the last time mixes, so that the difference between two times and one is calls alone. */
+static uint64_t walked(int salvaging, long times) {
+    uint64_t all = 0xCBF29CE484222325u;
+    for (; times > 0; times--)
+        for (size_t i = 0; i < asked; i++) {
+            struct place at = places[i];
+            uint64_t answer = salvaging ? SALVAGE(image, length, 1, at.block, at.offset, at.mark, out, sizeof out)
+                                        : READ(image, length, 1, at.block, at.offset, at.mark, out, sizeof out);
+            if (times == 1)
+                all = mixed(all, answer);
+        }
+    return all;
+}
 
 int main(int count, char **arguments) {
-    if (count != 3)
+    if (count < 4)
         return 2;
-    FILE *file = fopen(arguments[1], "rb");
-    if (!file)
+    int judging = strcmp(arguments[1], "judge") == 0;
+    if (!load_image(arguments[2]) || (!judging && (count != 5 || !load_places(arguments[4]))))
         return 1;
-    uint64_t length = fread(image, 1, sizeof image, file);
-    uint64_t answer = 0;
-    for (long times = atol(arguments[2]); times > 0; times--)
-        answer = JUDGE(image, length);
+    long times = atol(arguments[3]);
+    uint64_t answer = judging ? judged(times) : walked(strcmp(arguments[1], "salvage") == 0, times);
     printf("%016llx\n", (unsigned long long)answer);
     return 0;
 }

@@ -30,6 +30,8 @@ static u64 call_judge(struct lent *s, u64 *n) { (void)n; return galz_judge(s[0].
 static u64 call_find(struct lent *s, u64 *n) { (void)n; return galz_find(s[0].bytes, s[0].length, s[1].bytes, s[1].length); }
 static u64 call_count(struct lent *s, u64 *n) { return galz_count(s[0].bytes, s[0].length, n[0]); }
 static u64 call_free(struct lent *s, u64 *n) { (void)n; return galz_free(s[0].bytes, s[0].length); }
+static u64 call_read(struct lent *s, u64 *n) { return galz_read(s[0].bytes, s[0].length, n[0], n[1], n[2], n[3], s[1].bytes, s[1].length); }
+static u64 call_salvage(struct lent *s, u64 *n) { return galz_salvage(s[0].bytes, s[0].length, n[0], n[1], n[2], n[3], s[1].bytes, s[1].length); }
 
 /* the number again, from the parts that the header's functions give */
 static u64 refusal_again(u64 a) { return (u64)galz_code(a) << 56 | galz_first(a) << 24 | galz_second(a) << 4 | galz_third(a); }
@@ -43,11 +45,18 @@ static u64 volume_again(u64 a)
 	       (u64)galz_defect_1(a) << 32 | (u64)galz_defect_2(a) << 40;
 }
 
+static u64 next_again(u64 a) { return galz_next_block(a) << 16 | galz_next_offset(a) << 1 | galz_next_mark(a); }
+static u64 record_again(u64 a) { return galz_done(a) ? galz_length(a) << 32 | next_again(a) : ~a; }
+static u64 gap_again(u64 a) { return 128ULL << 56 | next_again(a); }
+static u64 end_again(u64 a) { return 129ULL << 56 | next_again(a); }
+static u64 reading_again(u64 a) { return galz_is_gap(a) ? gap_again(a) : galz_is_end(a) ? end_again(a) : record_again(a); }
+
 /* the calls by their numbers, which src/drive.rs knows too */
 static const struct {
 	u64 (*call)(struct lent *, u64 *);
 	u64 (*again)(u64);
-} calls[] = { { call_judge, volume_again }, { call_find, found_again }, { call_count, number_again }, { call_free, number_again } };
+} calls[] = { { call_judge, volume_again }, { call_find, found_again }, { call_count, number_again }, { call_free, number_again },
+	      { call_read, reading_again }, { call_salvage, reading_again } };
 
 /* all so many bytes: 1; the input ended before the first: 0; in the midst: -1 */
 static int take(void *to, u64 count)
@@ -161,7 +170,9 @@ static int serve(u64 turn)
 		if (take_lent(&lent[i], i == 2 ? 0 : turn + (u64)i) != 1)
 			return -1;
 	u64 returned = calls[call].call(lent, n);
-	u64 again = galz_done(returned) ? calls[call].again(returned) : refusal_again(returned);
+	u64 again = galz_refused(returned) ? refusal_again(returned) : calls[call].again(returned);
+	if (galz_done(returned) + galz_refused(returned) + galz_is_gap(returned) + galz_is_end(returned) != 1)
+		again = ~returned;
 	if (answer(returned, again, lent) != 1)
 		return -1;
 	for (int i = 0; i < STRINGS; i++) {

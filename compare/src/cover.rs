@@ -1,10 +1,13 @@
 //! Counts which refusals, answers, positions and shapes cases reach.
 
 use crate::label::{Entry, Format};
+use crate::make::build::Volume;
 use crate::make::fields::{ERMAP, HDR1, VOL1};
+use crate::make::file::FilePlan;
 use crate::make::Case;
 use crate::model::{answer, Answer, Call};
 use crate::packed::{code, refusal_of, END, GAP};
+use crate::reading::{watched, Event, Events, Place};
 use crate::volume::{judge, label_in};
 use std::collections::BTreeMap;
 
@@ -46,15 +49,19 @@ const LEVELS: &str = "levels accepted";
 const BLOCKS: &str = "B and R accepted";
 const LISTS: &str = "listings";
 
+const MET: &str = "met in reading and salvage";
+const FILES: &str = "files read from Start to their end";
+
+const OF_READING: [&str; 5] = [
+    "read record",
+    "read End",
+    "salvage record",
+    "salvage gap",
+    "salvage End",
+];
+
 /// What calls answer.
 fn answer_tables() -> Vec<Table> {
-    let readings = [
-        "read record",
-        "read End",
-        "salvage record",
-        "salvage gap",
-        "salvage End",
-    ];
     let done = [
         "judge",
         "find",
@@ -65,7 +72,7 @@ fn answer_tables() -> Vec<Table> {
     ];
     vec![
         table(REFUSALS, 1..=27),
-        table(READINGS, readings),
+        table(READINGS, OF_READING),
         table(DONE, done),
         table(SECTORS, [5, 7]),
         table(OF_VOL1, VOL1),
@@ -100,6 +107,20 @@ impl Cover {
         Cover { tables }
     }
 
+    /// What calls of reading and salvage alone reach.
+    pub fn of_readings() -> Cover {
+        let files = ["defective records", "U > 0", "several records to a block"];
+        let mut tables = vec![
+            table(REFUSALS, 13..=23),
+            table(READINGS, OF_READING),
+            table(MET, Event::ALL.map(|event| event.1)),
+            table(FILES, files),
+        ];
+        let shapes = shape_tables().into_iter();
+        tables.extend(shapes.filter(|shape| [SIZES, FORMATS, BLOCKS].contains(&shape.0)));
+        Cover { tables }
+    }
+
     fn reach(&mut self, title: &str, key: &str) {
         let key = wide(key);
         let found = self.tables.iter_mut().find(|table| table.0 == title);
@@ -117,6 +138,51 @@ impl Cover {
             self.count_volume(&case.image, &geometry);
         }
         given
+    }
+
+    /// Counts a call of reading or salvage and its answer.
+    pub fn count_reading(&mut self, image: &[u8], call: &Call, given: &Answer) {
+        #[rustfmt::skip]
+        let (slot, block, offset, mark, salvaging) = match call {
+            Call::Read { slot, block, offset, mark, .. } => (slot, block, offset, mark, false),
+            Call::Salvage { slot, block, offset, mark, .. } => (slot, block, offset, mark, true),
+            _ => return,
+        };
+        self.count_refusal(given.packed);
+        self.count_done(call, given);
+        let place = Place {
+            block: *block,
+            offset: *offset,
+            mark: *mark != 0,
+        };
+        let events = Events::default();
+        let mut out = given.out.clone();
+        let _ = watched(image, *slot, place, &mut out, salvaging, &events);
+        for (event, name) in Event::ALL {
+            if events.has(event) {
+                self.reach(MET, name);
+            }
+        }
+    }
+
+    /// Counts a file that was read to its end.
+    pub fn count_read_file(&mut self, made: &Volume, file: &FilePlan) {
+        let geometry = &made.geometry;
+        if file.good.len() <= file.end - file.start {
+            self.reach(FILES, "defective records");
+        }
+        if file.u > 0 {
+            self.reach(FILES, "U > 0");
+        }
+        if file.m > 1 {
+            self.reach(FILES, "several records to a block");
+        }
+        self.reach(SIZES, &geometry.p().to_string());
+        if let Some(label) = label_in(&made.image, file.slot) {
+            if let Some(entry) = Entry::of(label, geometry) {
+                self.count_file(label, &entry, geometry.p());
+            }
+        }
     }
 
     fn count_refusal(&mut self, packed: u64) {
@@ -229,7 +295,7 @@ impl Cover {
         for (title, rows) in &self.tables {
             text.push_str(&format!("{title}\n"));
             for (key, count) in rows {
-                text.push_str(&format!("  {key:<20} {count:>8}\n"));
+                text.push_str(&format!("  {key:<30} {count:>8}\n"));
             }
         }
         text

@@ -39,9 +39,15 @@ fn request(image: &[u8], call: &Call) -> Option<Request> {
         Call::Find { name } => (1, [0; 4], name.clone()),
         Call::Count { slot } => (2, [*slot, 0, 0, 0], Vec::new()),
         Call::Free => (3, [0; 4], Vec::new()),
-        Call::Read { .. } | Call::Salvage { .. } | Call::Write { .. } | Call::Listing => {
-            return None
-        }
+        #[rustfmt::skip]
+        Call::Read { slot, block, offset, mark, out } => {
+            (4, [*slot, *block, *offset, *mark], out.clone())
+        },
+        #[rustfmt::skip]
+        Call::Salvage { slot, block, offset, mark, out } => {
+            (5, [*slot, *block, *offset, *mark], out.clone())
+        },
+        Call::Write { .. } | Call::Listing => return None,
     };
     Some(Request {
         number,
@@ -56,9 +62,12 @@ pub fn knows(call: &Call) -> bool {
 
 /// What the independent program says of a call that the driver knows.
 pub fn expected(image: &[u8], call: &Call) -> Option<Outcome> {
-    let request = request(image, call)?;
+    let [_, second, third] = request(image, call)?.lent;
     let said = answer(image, call);
-    let [_, second, third] = request.lent;
+    let second = match call {
+        Call::Read { .. } | Call::Salvage { .. } => said.out,
+        _ => second,
+    };
     Some(Outcome {
         returned: said.packed,
         lent: [said.image, second, third],
@@ -159,15 +168,19 @@ impl Request {
     }
 
     fn call(&self) -> io::Result<Call> {
+        let [slot, block, offset, mark] = self.numbers;
+        let out = self.lent[1].clone();
         Ok(match self.number {
             0 => Call::Judge,
             1 => Call::Find {
                 name: self.lent[1].clone(),
             },
-            2 => Call::Count {
-                slot: self.numbers[0],
-            },
+            2 => Call::Count { slot },
             3 => Call::Free,
+            #[rustfmt::skip]
+            4 => Call::Read { slot, block, offset, mark, out },
+            #[rustfmt::skip]
+            5 => Call::Salvage { slot, block, offset, mark, out },
             _ => return Err(io::Error::other("no such call")),
         })
     }
@@ -190,25 +203,55 @@ impl Request {
 /// the number, in a lent byte, in a byte that was not lent and in the header.
 /// It serves the tests of the comparison itself.
 pub fn serve(input: &mut impl Read, output: &mut impl Write, wrong: usize) -> io::Result<()> {
+    serve_by(input, output, wrong, expected)
+}
+
+/// The same with any other program in the place of the library: what it says
+/// of a call, lent bytes included.
+pub fn serve_by(
+    input: &mut impl Read,
+    output: &mut impl Write,
+    wrong: usize,
+    mut said: impl FnMut(&[u8], &Call) -> Option<Outcome>,
+) -> io::Result<()> {
     let mut turn = 0;
     while let Some(request) = Request::read(input)? {
         turn += 1;
-        let said = answer(&request.lent[0], &request.call()?);
-        let mut reply = said.packed.to_le_bytes().to_vec();
-        reply.push(0);
+        let call = request.call()?;
+        let mut outcome = said(&request.lent[0], &call).ok_or(io::ErrorKind::Unsupported)?;
         if wrong > 0 && turn % wrong == 0 {
-            match turn / wrong % 4 {
-                0 => reply[0] ^= 1,
-                1 => reply[8] = AROUND,
-                2 => reply[8] = PARTS,
-                _ => {
-                    reply[8] = 1;
-                    reply.extend(request.lent[0].iter().map(|byte| !byte));
-                }
-            }
+            spoil(&mut outcome, turn / wrong);
         }
-        output.write_all(&reply)?;
+        output.write_all(&outcome.bytes(&request.lent))?;
         output.flush()?;
     }
     Ok(())
+}
+
+/// Makes an outcome wrong, in turn in four ways.
+fn spoil(outcome: &mut Outcome, turn: usize) {
+    match turn % 4 {
+        0 => outcome.returned ^= 1,
+        1 => outcome.around = true,
+        2 => outcome.parts = true,
+        _ => outcome.lent[0].iter_mut().for_each(|byte| *byte = !*byte),
+    }
+}
+
+impl Outcome {
+    /// As the driver tells it, of the bytes that were lent.
+    fn bytes(&self, lent: &[Vec<u8>; STRINGS]) -> Vec<u8> {
+        let mut bytes = self.returned.to_le_bytes().to_vec();
+        let mut changed = u8::from(self.around) * AROUND + u8::from(self.parts) * PARTS;
+        let mut strings: Vec<u8> = Vec::new();
+        for (place, (now, before)) in self.lent.iter().zip(lent).enumerate() {
+            if now != before {
+                changed |= 1 << place;
+                strings.extend(now);
+            }
+        }
+        bytes.push(changed);
+        bytes.extend(strings);
+        bytes
+    }
 }

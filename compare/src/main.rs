@@ -4,11 +4,12 @@ use compare::cover::cover;
 use compare::drive::serve;
 use compare::listing::{listing, MOST_BYTES};
 use compare::make::sample::{named, NAMES};
+use compare::options::{Options, SEED};
 use compare::properties::check;
+use compare::reading::places;
 use std::io::{Read, Write};
 use std::process::ExitCode;
 
-const DEFAULT_SEED: u64 = 28_081;
 const DEFAULT_LARGEST: usize = 70_000;
 
 const HELP: &str = "\
@@ -16,6 +17,8 @@ compare listing                         lists the image on standard input
 compare sample NAME                     writes a sample image to standard output
 compare cover [--seed N] [--count N]    shows what the made cases reach
 compare check [--seed N] [--count N]    checks the properties on made cases
+compare walk read MOST                  writes how many places reading the file in slot 1 of the image on standard input
+compare walk salvage MOST               leads to, and at most so many of them, evenly taken: block, offset and mark
 compare serve [--wrong N]               answers calls as the C driver does, every Nth wrongly
 compare --help                          shows this text
 ";
@@ -28,6 +31,8 @@ fn main() -> ExitCode {
         ["sample", name] => sample(name),
         ["cover", options @ ..] => with_options(options, 20_000, show_cover),
         ["check", options @ ..] => with_options(options, 5_000, show_check),
+        ["walk", "read", most] => walk(false, most),
+        ["walk", "salvage", most] => walk(true, most),
         ["serve"] => serve_calls("0"),
         ["serve", "--wrong", every] => serve_calls(every),
         ["--help" | "-h" | "help"] => print(HELP.as_bytes()),
@@ -66,6 +71,25 @@ fn sample(name: &str) -> ExitCode {
     }
 }
 
+fn walk(salvaging: bool, most: &str) -> ExitCode {
+    let Some(most) = most.parse().ok().filter(|most| *most > 0) else {
+        return misused();
+    };
+    let mut image = Vec::new();
+    if std::io::stdin().read_to_end(&mut image).is_err() {
+        return ExitCode::FAILURE;
+    }
+    let all = places(&image, 1, salvaging);
+    // An odd step, so that blocks of 2, 4, 8 or 16 records are met all over.
+    let step = all.len().div_ceil(most) | 1;
+    let mut text = format!("{}\n", all.len());
+    for place in all.iter().step_by(step) {
+        let mark = u8::from(place.mark);
+        text += &format!("{} {} {mark}\n", place.block, place.offset);
+    }
+    print(text.as_bytes())
+}
+
 fn serve_calls(every: &str) -> ExitCode {
     let Ok(every) = every.parse() else {
         return misused();
@@ -77,22 +101,11 @@ fn serve_calls(every: &str) -> ExitCode {
     }
 }
 
-fn with_options(options: &[&str], count: usize, run: fn(u64, usize) -> ExitCode) -> ExitCode {
-    let (mut seed, mut count) = (DEFAULT_SEED, count);
-    for pair in options.chunks(2) {
-        match pair {
-            ["--seed", value] => match value.parse() {
-                Ok(value) => seed = value,
-                Err(_) => return misused(),
-            },
-            ["--count", value] => match value.parse() {
-                Ok(value) => count = value,
-                Err(_) => return misused(),
-            },
-            _ => return misused(),
-        }
+fn with_options(words: &[&str], count: u64, run: fn(u64, usize) -> ExitCode) -> ExitCode {
+    match Options::numbers(words, &[("seed", SEED), ("count", count)]) {
+        Some(options) => run(options.number("seed"), options.count("count")),
+        None => misused(),
     }
-    run(seed, count)
 }
 
 fn show_cover(seed: u64, count: usize) -> ExitCode {

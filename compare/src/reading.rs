@@ -3,6 +3,7 @@
 use crate::file::{Block, File, Good};
 use crate::label::Format;
 use crate::refusal::Refusal;
+use std::cell::Cell;
 
 /// "A place is a block number and an offset, with a mark 'after a gap'."
 #[derive(Clone, Copy, Debug, PartialEq, Eq)]
@@ -42,24 +43,97 @@ pub enum Reading {
     End { next: Place },
 }
 
+/// What a reading meets on its way beside its answer, and why content is
+/// refused, so that a comparison can count what its cases reach.
+#[derive(Clone, Copy, Debug, PartialEq, Eq)]
+pub enum Event {
+    FillPassed,
+    MarkKept,
+    SecondDropped,
+    ThirdDropped,
+    GapMidway,
+    FewLeft,
+    FillBroken,
+    BehindUnblocked,
+    BehindSegment,
+    NoIndicator,
+    NoDigits,
+    LengthBelow,
+    LengthOutside,
+    OverMaximum,
+    NotFirst,
+    NotNext,
+}
+
+impl Event {
+    pub const ALL: [(Event, &'static str); 16] = [
+        (Event::FillPassed, "a rest of fill passed"),
+        (Event::MarkKept, "a mark kept by a block of fill"),
+        (Event::SecondDropped, "a 2 dropped"),
+        (Event::ThirdDropped, "a 3 dropped"),
+        (Event::GapMidway, "a gap midway in a record"),
+        (Event::FewLeft, "21: a few bytes left, not fill"),
+        (Event::FillBroken, "21: a 00, then not fill"),
+        (Event::BehindUnblocked, "21: behind an unblocked record"),
+        (Event::BehindSegment, "21: behind a 1 or 2"),
+        (Event::NoIndicator, "21: no indicator"),
+        (Event::NoDigits, "21: no digits"),
+        (Event::LengthBelow, "21: a length too small"),
+        (Event::LengthOutside, "21: outside the content"),
+        (Event::OverMaximum, "21: over R"),
+        (Event::NotFirst, "21: a 2 or 3 first"),
+        (Event::NotNext, "21: a 0 or 1 after a 1 or 2"),
+    ];
+}
+
+/// Events that were met, a bit each.
+#[derive(Debug, Default)]
+pub struct Events(Cell<u32>);
+
+impl Events {
+    fn note(&self, event: Event) {
+        self.0.set(self.0.get() | 1 << event as u32);
+    }
+
+    pub fn has(&self, event: Event) -> bool {
+        self.0.get() >> event as u32 & 1 == 1
+    }
+}
+
 /// Plain reading of the record at a place.
 pub fn read(image: &[u8], slot: u64, place: Place, out: &mut [u8]) -> Result<Reading, Refusal> {
     // "In plain reading ... the mark counts as absent."
-    answer(image, slot, place, out, false)
+    watched(image, slot, place, out, false, &Events::default())
 }
 
 /// Salvage from a place.
 pub fn salvage(image: &[u8], slot: u64, place: Place, out: &mut [u8]) -> Result<Reading, Refusal> {
-    answer(image, slot, place, out, true)
+    watched(image, slot, place, out, true, &Events::default())
 }
 
+/// Every place that reading leads to, from Start to the one where it ends.
+pub fn places(image: &[u8], slot: u64, salvaging: bool) -> Vec<Place> {
+    let mut out = vec![0; image.len()];
+    let mut places = vec![Place::START];
+    loop {
+        let place = places[places.len() - 1];
+        let events = Events::default();
+        match watched(image, slot, place, &mut out, salvaging, &events) {
+            Ok(Reading::Record { next, .. } | Reading::Gap { next }) => places.push(next),
+            _ => return places,
+        }
+    }
+}
+
+/// Reading or salvage, with what it met noted.
 /// "Reading: 13-19, then 20-22 as blocks are met, 23 last."
-fn answer(
+pub fn watched(
     image: &[u8],
     slot: u64,
     place: Place,
     out: &mut [u8],
     salvage: bool,
+    events: &Events,
 ) -> Result<Reading, Refusal> {
     let file = File::open(image, slot)?;
     file.accessible()?;
@@ -73,6 +147,7 @@ fn answer(
         file: &file,
         count,
         salvage,
+        events,
     };
     let block = place.block as usize;
     let first = survey.at.unwrap_or(file.entry.end + 1);
@@ -148,6 +223,7 @@ struct Reader<'a> {
     file: &'a File,
     count: usize,
     salvage: bool,
+    events: &'a Events,
 }
 
 /// What may stand first where a segment is looked for.
@@ -205,16 +281,34 @@ impl Reader<'_> {
 
     /// "21 | content rule broken | block, offset where record, segment or
     /// rest begins"
-    fn broken(spot: &Spot, offset: usize) -> Refusal {
+    fn broken(&self, spot: &Spot, offset: usize, why: Event) -> Refusal {
+        self.events.note(why);
         Refusal::at_two(21, spot.number, offset)
     }
 
     /// "the rest must be fill"
-    fn need_fill(&self, spot: &Spot, offset: usize) -> Result<(), Refusal> {
+    fn need_fill(&self, spot: &Spot, offset: usize, why: Event) -> Result<(), Refusal> {
         if spot.block.is_fill(self.image, offset, spot.content) {
+            self.events.note(Event::FillPassed);
             Ok(())
         } else {
-            Err(Self::broken(spot, offset))
+            Err(self.broken(spot, offset, why))
+        }
+    }
+
+    /// "inside the content", from the least a control word may say.
+    fn need_length(
+        &self,
+        spot: &Spot,
+        digits: Option<usize>,
+        least: usize,
+    ) -> Result<usize, Refusal> {
+        let broken = |why| Err(self.broken(spot, spot.offset, why));
+        match digits {
+            None => broken(Event::NoDigits),
+            Some(length) if length < least => broken(Event::LengthBelow),
+            Some(length) if length > spot.left() => broken(Event::LengthOutside),
+            Some(length) => Ok(length),
         }
     }
 
@@ -262,6 +356,15 @@ impl Reader<'_> {
         }
     }
 
+    /// "with fewer than 4 bytes left (S: 5), or at a byte 00, the rest must
+    /// be fill": which of the two.
+    fn rest(&self, spot: &Spot, few: bool) -> Option<Event> {
+        if few {
+            return Some(Event::FewLeft);
+        }
+        (spot.block.byte(self.image, spot.offset) == 0).then_some(Event::FillBroken)
+    }
+
     /// "In V, with fewer than 4 bytes left ..., or at a byte 00, the rest
     /// must be fill. V: four digits, from 4 to R, then the body, inside the
     /// content; if unblocked, at offsets above 0 only fill."
@@ -273,17 +376,20 @@ impl Reader<'_> {
                 Met::Lost => return Ok(self.gap(&spot)),
                 Met::Whole => {}
             }
-            let left = spot.left();
             let only_fill = !entry.blocked && spot.offset > 0;
-            if left < 4 || only_fill || spot.block.byte(self.image, spot.offset) == 0 {
-                self.need_fill(&spot, spot.offset)?;
+            let rest = match spot.left() {
+                _ if only_fill => Some(Event::BehindUnblocked),
+                left => self.rest(&spot, left < 4),
+            };
+            if let Some(why) = rest {
+                self.need_fill(&spot, spot.offset, why)?;
                 spot.enter_next();
                 continue;
             }
-            let length = self
-                .four_digits(&spot, spot.offset)
-                .filter(|&length| (4..=entry.r).contains(&length) && length <= left)
-                .ok_or(Self::broken(&spot, spot.offset))?;
+            let length = self.need_length(&spot, self.four_digits(&spot, spot.offset), 4)?;
+            if length > entry.r {
+                return Err(self.broken(&spot, spot.offset, Event::OverMaximum));
+            }
             return self.hand_over(&spot, spot.offset + 4, length - 4, out);
         }
     }
@@ -291,21 +397,16 @@ impl Reader<'_> {
     /// "S: `0`-`3`, four digits from 5, inside the content." None where the
     /// rest is fill.
     fn segment(&self, spot: &Spot) -> Result<Option<Segment>, Refusal> {
-        let left = spot.left();
-        if left < 5 || spot.block.byte(self.image, spot.offset) == 0 {
-            self.need_fill(spot, spot.offset)?;
+        if let Some(why) = self.rest(spot, spot.left() < 5) {
+            self.need_fill(spot, spot.offset, why)?;
             return Ok(None);
         }
         let indicator = spot.block.byte(self.image, spot.offset);
-        let length = self
-            .four_digits(spot, spot.offset + 1)
-            .filter(|&length| (5..=left).contains(&length));
-        match length {
-            Some(length) if (b'0'..=b'3').contains(&indicator) => {
-                Ok(Some(Segment { indicator, length }))
-            }
-            _ => Err(Self::broken(spot, spot.offset)),
+        let length = self.need_length(spot, self.four_digits(spot, spot.offset + 1), 5)?;
+        if !(b'0'..=b'3').contains(&indicator) {
+            return Err(self.broken(spot, spot.offset, Event::NoIndicator));
         }
+        Ok(Some(Segment { indicator, length }))
     }
 
     /// S: the first record found from the spot on, whole.
@@ -330,11 +431,19 @@ impl Reader<'_> {
                 }
                 Met::PastLast => return Ok(self.end()),
                 // "Meeting it, also midway in a spanned record, gives one gap"
-                Met::Lost => return Ok(self.gap(&spot)),
+                Met::Lost => {
+                    if joining.expect == Expect::Midway {
+                        self.events.note(Event::GapMidway);
+                    }
+                    return Ok(self.gap(&spot));
+                }
                 Met::Whole => {}
             }
             // "A block of fill alone holds nothing", and "keeps" the mark.
             let Some(segment) = self.segment(&spot)? else {
+                if joining.expect == Expect::Marked {
+                    self.events.note(Event::MarkKept);
+                }
                 spot.enter_next();
                 continue;
             };
@@ -352,7 +461,7 @@ impl Reader<'_> {
         spot: &mut Spot,
         segment: &Segment,
     ) -> Result<Option<usize>, Refusal> {
-        let dropped = Self::drops(segment, joining.expect, spot)?;
+        let dropped = self.drops(segment, joining.expect, spot)?;
         if !dropped {
             if joining.expect != Expect::Midway {
                 joining.first = *spot;
@@ -364,7 +473,7 @@ impl Reader<'_> {
         let goes_on = matches!(segment.indicator, b'1' | b'2');
         if goes_on {
             // "After 1 or 2 the rest of the block is fill"
-            self.need_fill(spot, behind)?;
+            self.need_fill(spot, behind, Event::BehindSegment)?;
             spot.enter_next();
         }
         joining.expect = match (goes_on, dropped) {
@@ -382,12 +491,20 @@ impl Reader<'_> {
 
     /// "a 2 is dropped, unmeasured by R, and the mark stays; a 3 is dropped
     /// likewise". An indicator that may not stand here breaks the rule.
-    fn drops(segment: &Segment, expect: Expect, spot: &Spot) -> Result<bool, Refusal> {
+    fn drops(&self, segment: &Segment, expect: Expect, spot: &Spot) -> Result<bool, Refusal> {
         let begins = matches!(segment.indicator, b'0' | b'1');
         match expect {
-            Expect::Fresh if !begins => Err(Self::broken(spot, spot.offset)),
-            Expect::Midway if begins => Err(Self::broken(spot, spot.offset)),
-            _ => Ok(expect == Expect::Marked && !begins),
+            Expect::Fresh if !begins => Err(self.broken(spot, spot.offset, Event::NotFirst)),
+            Expect::Midway if begins => Err(self.broken(spot, spot.offset, Event::NotNext)),
+            Expect::Marked if segment.indicator == b'2' => {
+                self.events.note(Event::SecondDropped);
+                Ok(true)
+            }
+            Expect::Marked if segment.indicator == b'3' => {
+                self.events.note(Event::ThirdDropped);
+                Ok(true)
+            }
+            _ => Ok(false),
         }
     }
 
@@ -396,7 +513,7 @@ impl Reader<'_> {
     fn measure(&self, length: usize, spot: &Spot) -> Result<(), Refusal> {
         let most = self.file.entry.r;
         if most != 0 && length > most {
-            return Err(Self::broken(spot, spot.offset));
+            return Err(self.broken(spot, spot.offset, Event::OverMaximum));
         }
         Ok(())
     }

@@ -51,6 +51,23 @@ fn check_prints_a_count_per_property() {
 }
 
 #[test]
+fn a_walk_tells_the_places_that_reading_leads_to() {
+    let sound = run(&["sample", "F-10"], b"").stdout;
+    let walk = run(&["walk", "read", "40"], &sound).stdout;
+    let text = String::from_utf8(walk).expect("text");
+    assert!(text.starts_with("33\n0 0 0\n0 80 0\n"));
+    assert!(text.ends_with("\n1 1200 0\n1 1280 0\n"));
+    assert_eq!(text.lines().count(), 34);
+    // Of 33 places every fifth.
+    let some = run(&["walk", "read", "7"], &sound).stdout;
+    assert!(some.starts_with(b"33\n0 0 0\n0 400 0\n"));
+    let lost = run(&["sample", "F-10-lost"], b"").stdout;
+    let walk = run(&["walk", "salvage", "40"], &lost).stdout;
+    assert!(walk.starts_with(b"18\n"));
+    assert!(walk.ends_with(b"\n0 1280 0\n2 0 1\n"));
+}
+
+#[test]
 fn help_is_printed_and_misuse_is_2() {
     assert!(run(&["--help"], b"").status.success());
     for wrong in [
@@ -58,6 +75,9 @@ fn help_is_printed_and_misuse_is_2() {
         &[],
         &["cover", "--seed"],
         &["check", "--count", "x"],
+        &["sample", "F-11"],
+        &["sample", "F-10-found"],
+        &["walk", "read", "0"],
     ] {
         assert_eq!(run(wrong, b"").status.code(), Some(2));
     }

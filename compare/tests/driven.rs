@@ -19,7 +19,7 @@ const LISTED: &str = env!("CARGO_BIN_EXE_listed");
 const COMPARE: &str = env!("CARGO_BIN_EXE_compare");
 
 fn driven(words: &[&str]) -> Output {
-    let few = ["--count", "60", "--every", "2000", "--"];
+    let few = ["--count", "250", "--every", "500", "--"];
     run(DRIVEN, &[&few[..], words].concat())
 }
 
@@ -29,6 +29,22 @@ fn the_program_itself_behind_a_pipe_differs_nowhere() {
     assert!(output.status.success());
     let text = text(&output);
     assert!(text.ends_with(" passed, 0 failed\n"));
+    assert!(!text.contains("DIFFERENT"));
+    for stage in [
+        "followed", "salvaged", "broken", "segments", "places", "large",
+    ] {
+        let line = text.lines().find(|line| line.starts_with(stage));
+        assert!(line.is_some_and(|line| line.ends_with(" alike, 0 different")));
+    }
+}
+
+#[test]
+fn what_is_never_reached_is_a_failure() {
+    let few = ["--count", "20", "--every", "100000", "--", COMPARE, "serve"];
+    let output = run(DRIVEN, &few);
+    assert_eq!(output.status.code(), Some(1));
+    let text = text(&output);
+    assert!(text.contains("\nnever reached: refusals: 18\n"));
     assert!(!text.contains("DIFFERENT"));
 }
 

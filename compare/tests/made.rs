@@ -2,10 +2,10 @@
 
 use compare::cover::cover;
 use compare::make::rng::Rng;
-use compare::make::{case, cases, counted, sample, Case, FAMILIES, LEAST};
+use compare::make::{case, cases, counted, sample, sizes, Case, FAMILIES, LEAST};
 use compare::packed::{code, geometry_of, reading_of, refusal, refusal_of};
 use compare::properties::{check, lent_bytes_stay};
-use compare::{answer, judge, Call, Geometry, Place, Reading, Refusal};
+use compare::{answer, count, judge, read, Call, Geometry, Place, Reading, Refusal};
 use std::collections::BTreeSet;
 
 const SEED: u64 = 28_081;
@@ -226,4 +226,19 @@ fn a_record_carries_the_next_place_and_its_length() {
         out: vec![],
     };
     assert_eq!(answer(&image, &call).packed, 129 << 56 | 2 << 16);
+}
+
+#[test]
+fn the_largest_files_reach_every_bound() {
+    let (blocks, length) = sizes::LONGEST_RECORD;
+    assert_eq!(count(&sizes::most_blocks(), 1), Ok(4_992));
+    assert_eq!(count(&sizes::longest_blocks(), 1), Ok(192));
+    let image = sizes::longest_record();
+    let mut out = vec![0; length];
+    let next = Place::unmarked(blocks - 1, 9_216);
+    let whole = Reading::Record {
+        length: length as u64,
+        next,
+    };
+    assert_eq!(read(&image, 1, Place::START, &mut out), Ok(whole));
 }

@@ -1,13 +1,14 @@
 //! The library behind the C driver against the independent program: the
 //! number that each call returns, and every lent byte afterwards.
 
-use compare::drive::{expected, knows, Driver, Outcome};
 use compare::layout::Geometry;
 use compare::make::rng::Rng;
 use compare::make::sample::{named, NAMES};
 use compare::make::{bad::bad, cases, counted, Case};
-use compare::packed::in_words;
-use compare::{judge, Call};
+use compare::options::{Options, SEED};
+use compare::session::Session;
+use compare::{follow, judge, odd, Call};
+use std::io;
 use std::process::ExitCode;
 
 const HELP: &str = "\
@@ -15,56 +16,35 @@ driven [--seed N] [--count N] [--largest BYTES] [--every N] -- COMMAND..
 
 Runs the driver by COMMAND and compares with it
 - the samples, up to the largest volume, and so many drawn cases, with images of at most so many bytes, each asked for
-  its judgement, its free records, blocks of slots and files of names;
+  its judgement, its free records, blocks of slots, files of names and what the case itself asks;
 - of the cases that are counted out, one of every N;
 - bad input: random bytes, a volume cut to every length, every value of every
-  byte of its VOL1 and ERMAP sectors.
-The last line is 'N passed, M failed'.
+  byte of its VOL1 and ERMAP sectors;
+- whole files, plainly and in salvage, by following the places that the library gives: of N/2 sound volumes, of N/4 with
+  lost blocks, of N/2 with broken content or refused, of N/8 with control words in any order;
+- places that no reading leads to, in N/40 small volumes; places of the largest volumes.
+What calls of reading and salvage have reached is printed; all of the table has to be. The last line is
+'N passed, M failed'.
 ";
 
-/// How many differences are printed in full.
-const SHOWN: usize = 10;
-
-struct Options {
-    seed: u64,
-    count: usize,
-    largest: usize,
-    every: usize,
-    command: Vec<String>,
-}
-
-fn options(words: &[String]) -> Option<Options> {
-    let split = words.iter().position(|word| word == "--")?;
-    let mut options = Options {
-        seed: 28_081,
-        count: 4_000,
-        largest: 70_000,
-        every: 13,
-        command: words[split + 1..].to_vec(),
-    };
-    for pair in words[..split].chunks(2) {
-        let [name, value] = pair else { return None };
-        match name.as_str() {
-            "--seed" => options.seed = value.parse().ok()?,
-            "--count" => options.count = value.parse().ok()?,
-            "--largest" => options.largest = value.parse().ok()?,
-            "--every" => options.every = value.parse().ok().filter(|n| *n > 0)?,
-            _ => return None,
-        }
-    }
-    Some(options)
-}
+const DEFAULTS: [(&str, u64); 4] = [
+    ("seed", SEED),
+    ("count", 4_000),
+    ("largest", 70_000),
+    ("every", 13),
+];
 
 fn main() -> ExitCode {
     let words: Vec<String> = std::env::args().skip(1).collect();
-    let Some(options) = options(&words) else {
+    let options = Options::with_command(&words, &DEFAULTS);
+    let Some(options) = options.filter(|options| options.number("every") > 0) else {
         eprint!("{HELP}");
         return ExitCode::from(2);
     };
     match run(&options) {
-        Ok(tally) => {
-            println!("{} passed, {} failed", tally.passed, tally.failed);
-            ExitCode::from(u8::from(tally.failed > 0 || tally.passed == 0))
+        Ok((passed, failed)) => {
+            println!("{passed} passed, {failed} failed");
+            ExitCode::from(u8::from(failed > 0 || passed == 0))
         }
         Err(error) => {
             eprintln!("driven: {error}");
@@ -73,45 +53,43 @@ fn main() -> ExitCode {
     }
 }
 
-#[derive(Default)]
-struct Tally {
-    passed: usize,
-    failed: usize,
+fn run(options: &Options) -> io::Result<(usize, usize)> {
+    let mut session = Session::start(&options.command, options.number("seed"))?;
+    // A driver that answers no more was told of and counted.
+    match volumes(&mut session, options).and_then(|()| files(&mut session, options)) {
+        Ok(()) => session.end(),
+        Err(_) => Ok(session.tally()),
+    }
 }
 
-fn run(options: &Options) -> std::io::Result<Tally> {
-    let mut driver = Driver::start(&options.command)?;
-    let mut tally = Tally::default();
-    let drawn = cases(options.seed, options.count, options.largest);
-    let stages: [(&str, Box<dyn Iterator<Item = Case>>); 4] = [
-        ("samples", Box::new(samples().enumerate().flat_map(asked))),
-        ("drawn", Box::new(drawn.enumerate().flat_map(asked))),
-        (
-            "counted",
-            Box::new(counted(options.largest).step_by(options.every)),
-        ),
-        ("bad", Box::new(bad(options.seed, options.count))),
-    ];
-    for (stage, cases) in stages {
-        let before = tally.passed;
-        for (number, case) in cases.filter(|case| knows(&case.call)).enumerate() {
-            let place = format!("seed {}, {stage} {number}", options.seed);
-            if let Err(error) = compare_one(&mut driver, &case, &place, &mut tally) {
-                println!(
-                    "{place}: the driver answered no more: {error}\n  {}",
-                    told(&case)
-                );
-                tally.failed += 1;
-                return Ok(tally);
-            }
-        }
-        println!("{stage}: {} alike", tally.passed - before);
-    }
-    if !driver.end()? {
-        println!("the driver did not end well");
-        tally.failed += 1;
-    }
-    Ok(tally)
+/// Images and calls that are drawn or counted beforehand.
+fn volumes(session: &mut Session, options: &Options) -> io::Result<()> {
+    let (seed, count) = (options.number("seed"), options.count("count"));
+    let largest = options.count("largest");
+    let some = counted(largest).step_by(options.count("every"));
+    let drawn = cases(seed, count, largest).enumerate().flat_map(asked);
+    session.stage("samples", |on| {
+        on.compare_all(samples().enumerate().flat_map(asked))
+    })?;
+    session.stage("drawn", |on| on.compare_all(drawn))?;
+    session.stage("counted", |on| on.compare_all(some))?;
+    session.stage("bad", |on| on.compare_all(bad(seed, count)))
+}
+
+/// Files whose answers lead to the next call.
+fn files(session: &mut Session, options: &Options) -> io::Result<()> {
+    let (seed, count) = (options.number("seed"), options.count("count"));
+    let mut files = 0;
+    session.stage("followed", |on| {
+        files = follow::followed(on, seed, count / 2)?;
+        Ok(())
+    })?;
+    println!("followed: {files} files");
+    session.stage("salvaged", |on| follow::salvaged(on, seed, count / 4))?;
+    session.stage("broken", |on| follow::broken(on, seed, count / 2))?;
+    session.stage("segments", |on| follow::ordered_anyhow(on, seed, count / 8))?;
+    session.stage("places", |on| odd::places(on, seed, count / 40))?;
+    session.stage("large", odd::large)
 }
 
 fn samples() -> impl Iterator<Item = Case> {
@@ -162,59 +140,4 @@ fn name(rng: &mut Rng, image: &[u8], slot: usize) -> Vec<u8> {
         _ => {}
     }
     name
-}
-
-fn compare_one(
-    driver: &mut Driver,
-    case: &Case,
-    place: &str,
-    tally: &mut Tally,
-) -> std::io::Result<()> {
-    let (Some(right), Some(is)) = (
-        expected(&case.image, &case.call),
-        driver.ask(&case.image, &case.call)?,
-    ) else {
-        return Ok(());
-    };
-    if right == is {
-        tally.passed += 1;
-        return Ok(());
-    }
-    tally.failed += 1;
-    if tally.failed <= SHOWN {
-        println!("DIFFERENT: {place}\n  {}", told(case));
-        println!("  the program: {}", said(&right, case));
-        println!("  the library: {}", said(&is, case));
-    }
-    Ok(())
-}
-
-/// A case in words.
-fn told(case: &Case) -> String {
-    format!(
-        "{:?} of {} bytes, family {}",
-        case.call,
-        case.image.len(),
-        case.family
-    )
-}
-
-/// An outcome in words: what was returned, which lent bytes are others.
-fn said(outcome: &Outcome, case: &Case) -> String {
-    let reads = matches!(case.call, Call::Read { .. } | Call::Salvage { .. });
-    let mut text = format!(
-        "{:#018x}, {}",
-        outcome.returned,
-        in_words(outcome.returned, reads)
-    );
-    if outcome.lent[0] != case.image {
-        text += "; the image changed";
-    }
-    if outcome.parts {
-        text += "; the header takes it apart wrongly";
-    }
-    if outcome.around {
-        text += "; bytes that were not lent changed";
-    }
-    text
 }

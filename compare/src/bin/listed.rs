@@ -4,6 +4,7 @@
 use compare::listing::listing;
 use compare::make::cases;
 use compare::make::sample::{named, NAMES};
+use compare::options::{Options, SEED, SHOWN};
 use std::io::Write;
 use std::process::{Command, ExitCode, Stdio};
 
@@ -14,42 +15,16 @@ Runs COMMAND once for each image, the samples and those of so many drawn
 cases, and compares what it writes. The last line is 'N passed, M failed'.
 ";
 
-/// How many differences are printed in full.
-const SHOWN: usize = 10;
-
 /// How many bytes of a listing are printed.
 const MOST_SHOWN: usize = 4_000;
 
 /// Images a little above the longest that is listed, 65,536 bytes.
 const LARGEST: usize = 70_000;
 
-struct Options {
-    seed: u64,
-    count: usize,
-    command: Vec<String>,
-}
-
-fn options(words: &[String]) -> Option<Options> {
-    let split = words.iter().position(|word| word == "--")?;
-    let mut options = Options {
-        seed: 28_081,
-        count: 400,
-        command: words[split + 1..].to_vec(),
-    };
-    for pair in words[..split].chunks(2) {
-        let [name, value] = pair else { return None };
-        match name.as_str() {
-            "--seed" => options.seed = value.parse().ok()?,
-            "--count" => options.count = value.parse().ok()?,
-            _ => return None,
-        }
-    }
-    Some(options)
-}
-
 fn main() -> ExitCode {
     let words: Vec<String> = std::env::args().skip(1).collect();
-    let Some(options) = options(&words) else {
+    let defaults = [("seed", SEED), ("count", 400)];
+    let Some(options) = Options::with_command(&words, &defaults) else {
         eprint!("{HELP}");
         return ExitCode::from(2);
     };
@@ -72,11 +47,11 @@ fn main() -> ExitCode {
 }
 
 fn images(options: &Options) -> impl Iterator<Item = (String, Vec<u8>)> {
-    let seed = options.seed;
+    let seed = options.number("seed");
     let samples = NAMES
         .iter()
         .map(|name| (format!("sample {name}"), named(name).unwrap_or_default()));
-    let drawn = cases(seed, options.count, LARGEST).enumerate();
+    let drawn = cases(seed, options.count("count"), LARGEST).enumerate();
     samples.chain(drawn.map(move |(number, case)| {
         (
             format!("seed {seed}, case {number}, family {}", case.family),

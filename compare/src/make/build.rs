@@ -93,7 +93,7 @@ pub fn plain_geometry(l: usize, i: usize, d: usize, k: u8, s: usize) -> Geometry
 }
 
 /// d1 and d2 absent, one or both, now and then at their bounds.
-fn with_defects(rng: &mut Rng, mut geometry: Geometry) -> Geometry {
+pub fn with_defects(rng: &mut Rng, mut geometry: Geometry) -> Geometry {
     let l = geometry.l;
     if rng.chance(40) {
         return geometry;

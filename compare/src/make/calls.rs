@@ -79,7 +79,7 @@ pub fn write_call(slot: u64, records: &[Vec<u8>]) -> Call {
 }
 
 /// The length an empty output is too small for.
-fn needed(image: &[u8], slot: u64, place: Place, salvaging: bool) -> Option<usize> {
+pub fn needed(image: &[u8], slot: u64, place: Place, salvaging: bool) -> Option<usize> {
     let asked = if salvaging {
         salvage(image, slot, place, &mut [])
     } else {
@@ -109,20 +109,26 @@ pub fn reading_call(
         _ => needed + rng.below(40),
     };
     let out = rng.bytes(length);
+    call_at(rng, slot, place, salvaging, out)
+}
+
+/// Reading or salvage from a place; a mark is any number but 0.
+pub fn call_at(rng: &mut Rng, slot: u64, place: Place, salvaging: bool, out: Vec<u8>) -> Call {
+    let Place { block, offset, .. } = place;
     let mark = if place.mark { 1 + rng.draw() / 2 } else { 0 };
     if salvaging {
         Call::Salvage {
             slot,
-            block: place.block,
-            offset: place.offset,
+            block,
+            offset,
             mark,
             out,
         }
     } else {
         Call::Read {
             slot,
-            block: place.block,
-            offset: place.offset,
+            block,
+            offset,
             mark,
             out,
         }

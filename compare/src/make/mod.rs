@@ -13,6 +13,7 @@ pub mod places;
 pub mod read_cases;
 pub mod rng;
 pub mod sample;
+pub mod segments;
 pub mod sizes;
 pub mod tables;
 pub mod volume_cases;

@@ -9,15 +9,20 @@ use crate::reading::Place;
 
 /// Marks sectors of used blocks check-failed, with random bodies.
 pub fn lose(rng: &mut Rng, made: &mut Volume, file: &FilePlan, percent: usize) {
-    let geometry = made.geometry;
     for &record in &file.good[..file.blocks() * file.m] {
         if rng.chance(percent) {
-            let at = geometry.kind_at(geometry.record_ordinal(record));
-            made.image[at] = 32 + geometry.k;
-            let body = rng.telling_bytes(geometry.p());
-            made.image[at + 1..at + 1 + geometry.p()].copy_from_slice(&body);
+            lose_record(rng, made, record);
         }
     }
+}
+
+/// Marks one data record check-failed, with a random body.
+pub fn lose_record(rng: &mut Rng, made: &mut Volume, record: usize) {
+    let geometry = made.geometry;
+    let at = geometry.kind_at(geometry.record_ordinal(record));
+    made.image[at] = 32 + geometry.k;
+    let body = rng.telling_bytes(geometry.p());
+    made.image[at + 1..at + 1 + geometry.p()].copy_from_slice(&body);
 }
 
 fn some_format(rng: &mut Rng) -> Want {

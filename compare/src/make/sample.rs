@@ -1,7 +1,7 @@
 //! Volumes made by hand: the sample of document 01's listing and a few more.
 
 use super::build::plain_geometry;
-use super::sizes::{largest, smallest, typical};
+use super::sizes::{largest, read_sample, smallest, typical};
 use crate::layout::{Geometry, INDEX_SECTOR};
 use crate::text::address;
 use crate::writing::write;
@@ -209,6 +209,6 @@ pub fn named(name: &str) -> Option<Vec<u8>> {
         "largest" => largest(45),
         "largest-one" => largest(1),
         "largest-none" => largest(0),
-        _ => return None,
+        _ => return read_sample(name),
     })
 }

@@ -1,6 +1,10 @@
-//! Volumes of three sizes, with as many labels as wanted, for measuring.
+//! Volumes for measuring: of three sizes with as many labels as wanted, to be
+//! judged; with one full file, to be read.
 
+use super::pack::{pack, Shape as Packing};
+use super::rng::Rng;
 use super::sample::{hdr1, Plain};
+use crate::text::address_digits;
 
 /// A blocked file of level 2: its format, B, R and U.
 struct Shape {
@@ -78,4 +82,139 @@ pub fn typical() -> Vec<u8> {
 /// 5,283,408 bytes, as large as can be, with so many of its 45 slots used.
 pub fn largest(count: usize) -> Vec<u8> {
     with_files(Plain::new(96, 26, 26, 3, 2), count)
+}
+
+/// The geometry for a file of so many sectors: L, I, D and S.
+fn room(sectors: usize) -> Option<(usize, usize, usize, usize)> {
+    Some(match sectors {
+        10 => (1, 8, 10, 1),
+        100 => (4, 8, 25, 1),
+        1_000 => (20, 26, 25, 2),
+        4_900 => (96, 26, 26, 2),
+        _ => return None,
+    })
+}
+
+/// B of every file that is read: five physical records of 256 bytes.
+const READ_BLOCK: usize = 1_280;
+
+/// Bodies that fill a file: 80 bytes each in F; up to 300 in V, short and
+/// long ones mixed; up to three blocks in S, where the file has so many.
+fn bodies(format: u8, capacity: usize) -> Vec<Vec<u8>> {
+    let mut rng = Rng::new(28_081);
+    let r = match format {
+        b'F' => 80,
+        b'V' => READ_BLOCK,
+        _ => 0,
+    };
+    let shape = Packing {
+        format,
+        blocked: true,
+        b: READ_BLOCK,
+        r,
+        capacity,
+    };
+    let drawn: Vec<Vec<u8>> = (0..capacity * READ_BLOCK / 80 + 1)
+        .map(|_| {
+            let length = match format {
+                b'F' => 80,
+                b'V' => rng.between(0, 300),
+                _ => rng.between(0, READ_BLOCK * 3.min(capacity / 2)),
+            };
+            vec![rng.between(b'A' as usize, b'Z' as usize) as u8; length]
+        })
+        .collect();
+    let packed = pack(&shape, &drawn);
+    packed
+        .records
+        .into_iter()
+        .map(|record| record.body)
+        .collect()
+}
+
+/// One blocked file, in slot 1, of `F`, `V` or `S` on so many sectors, full.
+fn with_one_file(format: u8, sectors: usize) -> Option<Plain> {
+    let (l, i, d, s) = room(sectors)?;
+    let mut plain = Plain::new(l, i, d, 1, s);
+    let digits = address_digits(sectors - 1, &plain.geometry);
+    let end = String::from_utf8_lossy(&digits).into_owned();
+    plain.put_label(1, &hdr1("READ", READ_BLOCK, "01001", &end));
+    plain.set(1, 40, &[format]);
+    plain.set(1, 44, b"2");
+    let record: &[u8] = match format {
+        b'F' => b"0080",
+        b'V' => b"    ",
+        _ => b"0000",
+    };
+    plain.set(1, 54, record);
+    plain.set(1, 63, b"B");
+    let bodies = bodies(format, sectors * 256 / READ_BLOCK);
+    let lengths: Vec<u32> = bodies.iter().map(|body| body.len() as u32).collect();
+    let written = crate::write(&mut plain.image, 1, &bodies.concat(), &lengths);
+    written.is_ok().then_some(plain)
+}
+
+/// Names as `F-100` and `S-4900-lost`, the latter with its middle block lost.
+pub fn read_sample(name: &str) -> Option<Vec<u8>> {
+    let mut words = name.split('-');
+    let format = *words.next()?.as_bytes().first()?;
+    let sectors: usize = words.next()?.parse().ok()?;
+    let mut plain = match format {
+        b'F' | b'V' | b'S' => with_one_file(format, sectors)?,
+        _ => return None,
+    };
+    match (words.next(), words.next()) {
+        (None, _) => {}
+        (Some("lost"), None) => {
+            let geometry = plain.geometry;
+            let middle = crate::count(&plain.image, 1).ok()? as usize / 2;
+            let first = geometry.record_ordinal(middle * READ_BLOCK / geometry.p());
+            plain.image[geometry.kind_at(first)] = 32 + geometry.k;
+        }
+        _ => return None,
+    }
+    Some(plain.image)
+}
+
+/// The largest volume of a size of P with one file on all of it: its format,
+/// B and R.
+fn filled(k: u8, format: u8, b: usize, r: &[u8; 4]) -> Plain {
+    let mut plain = Plain::new(96, 26, 26, k, 2);
+    plain.put_label(1, &hdr1("ALL", b, "01001", "96126"));
+    plain.set(1, 40, &[format]);
+    plain.set(1, 44, b"2");
+    plain.set(1, 54, r);
+    plain.set(1, 63, b"B");
+    plain.set(1, 75, b"97001");
+    for record in 0..plain.geometry.data_records() {
+        let at = plain
+            .geometry
+            .kind_at(plain.geometry.record_ordinal(record))
+            + 1;
+        plain.image[at..at + 2].copy_from_slice(&(record as u16).to_le_bytes());
+    }
+    plain
+}
+
+/// As many blocks as a file can have, 4,992, of one physical record each.
+pub fn most_blocks() -> Vec<u8> {
+    filled(0, b'F', 128, b"0064").image
+}
+
+/// Blocks as long as they can be, 26,624 bytes; 192 of them.
+pub fn longest_blocks() -> Vec<u8> {
+    filled(3, b'F', 26 * 1_024, b"1024").image
+}
+
+/// Blocks of S, 9,216 bytes each, and what one record over all of them holds.
+pub const LONGEST_RECORD: (u64, usize) = (554, 554 * (9_216 - 5));
+
+/// One record as long as it can be.
+pub fn longest_record() -> Vec<u8> {
+    let mut plain = filled(3, b'S', 9_216, b"0000");
+    let mut rng = Rng::new(28_081);
+    let body = rng.bytes(LONGEST_RECORD.1);
+    let written = crate::write(&mut plain.image, 1, &body, &[body.len() as u32]);
+    debug_assert!(written == Ok(LONGEST_RECORD.0));
+    plain.image
 }

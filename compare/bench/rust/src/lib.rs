@@ -1,12 +1,63 @@
-//! The independent program's judge as a C function of the same form as the
+//! The independent program's calls as C functions of the same form as the
 //! library's, so that one driver measures both.
 
-use compare::{packed, volume};
+use compare::{packed, reading, volume, Place};
+use std::slice::{from_raw_parts, from_raw_parts_mut};
 
 /// # Safety
 /// `image` points to `length` bytes that nothing changes meanwhile.
 #[no_mangle]
 pub unsafe extern "C" fn rust_judge(image: *const u8, length: u64) -> u64 {
-    let image = std::slice::from_raw_parts(image, length as usize);
+    let image = from_raw_parts(image, length as usize);
     packed::judged(&volume::judge(image))
+}
+
+fn place(block: u64, offset: u64, mark: u64) -> Place {
+    Place {
+        block,
+        offset,
+        mark: mark != 0,
+    }
+}
+
+/// # Safety
+/// `image` points to `length` bytes that nothing changes meanwhile, `out` to
+/// `room` others.
+#[no_mangle]
+pub unsafe extern "C" fn rust_read(
+    image: *const u8,
+    length: u64,
+    slot: u64,
+    block: u64,
+    offset: u64,
+    mark: u64,
+    out: *mut u8,
+    room: u64,
+) -> u64 {
+    let image = from_raw_parts(image, length as usize);
+    let out = from_raw_parts_mut(out, room as usize);
+    packed::reading(&reading::read(image, slot, place(block, offset, mark), out))
+}
+
+/// # Safety
+/// As of `rust_read`.
+#[no_mangle]
+pub unsafe extern "C" fn rust_salvage(
+    image: *const u8,
+    length: u64,
+    slot: u64,
+    block: u64,
+    offset: u64,
+    mark: u64,
+    out: *mut u8,
+    room: u64,
+) -> u64 {
+    let image = from_raw_parts(image, length as usize);
+    let out = from_raw_parts_mut(out, room as usize);
+    packed::reading(&reading::salvage(
+        image,
+        slot,
+        place(block, offset, mark),
+        out,
+    ))
 }

@@ -1,0 +1,156 @@
+//! One run of the comparison over a driver: each call's answer beside the
+//! independent program's, what differs, and what was reached.
+
+use crate::cover::Cover;
+use crate::drive::{expected, knows, Driver, Outcome};
+use crate::make::Case;
+use crate::model::{Answer, Call};
+use crate::options::SHOWN;
+use crate::packed::in_words;
+use std::io;
+
+/// The driver, and what has been compared so far.
+pub struct Session {
+    driver: Driver,
+    seed: u64,
+    stage: &'static str,
+    number: usize,
+    passed: usize,
+    failed: usize,
+    pub cover: Cover,
+}
+
+impl Session {
+    pub fn start(command: &[String], seed: u64) -> io::Result<Session> {
+        Ok(Session {
+            driver: Driver::start(command)?,
+            seed,
+            stage: "",
+            number: 0,
+            passed: 0,
+            failed: 0,
+            cover: Cover::of_readings(),
+        })
+    }
+
+    /// The next calls are of a stage; what it found is printed behind it.
+    pub fn stage(
+        &mut self,
+        name: &'static str,
+        run: impl FnOnce(&mut Session) -> io::Result<()>,
+    ) -> io::Result<()> {
+        let (passed, failed) = self.tally();
+        (self.stage, self.number) = (name, 0);
+        run(self)?;
+        let (alike, different) = (self.passed - passed, self.failed - failed);
+        println!("{name}: {alike} alike, {different} different");
+        Ok(())
+    }
+
+    /// Compares the answers to a case. The number that the library returned,
+    /// if it is the right one and every byte is as it should be.
+    pub fn compare(&mut self, case: &Case) -> io::Result<Option<u64>> {
+        let Some(right) = expected(&case.image, &case.call) else {
+            return Ok(None);
+        };
+        let place = format!("seed {}, {} {}", self.seed, self.stage, self.number);
+        self.number += 1;
+        let is = match self.driver.ask(&case.image, &case.call) {
+            Ok(Some(is)) => is,
+            Ok(None) => return Ok(None),
+            Err(error) => {
+                let told = told(case);
+                println!("{place}: the driver answered no more: {error}\n  {told}");
+                self.failed += 1;
+                return Err(error);
+            }
+        };
+        if right == is {
+            self.passed += 1;
+            self.count(case, is);
+            return Ok(Some(right.returned));
+        }
+        self.failed += 1;
+        if self.failed <= SHOWN {
+            println!("DIFFERENT: {place}\n  {}", told(case));
+            println!("  the program: {}", said(&right, &right, case));
+            println!("  the library: {}", said(&is, &right, case));
+        }
+        Ok(None)
+    }
+
+    /// Compares every case that the driver knows the call of.
+    pub fn compare_all(&mut self, cases: impl Iterator<Item = Case>) -> io::Result<()> {
+        for case in cases.filter(|case| knows(&case.call)) {
+            self.compare(&case)?;
+        }
+        Ok(())
+    }
+
+    fn count(&mut self, case: &Case, outcome: Outcome) {
+        let [image, out, _] = outcome.lent;
+        let answer = Answer {
+            packed: outcome.returned,
+            image,
+            out,
+        };
+        self.cover.count_reading(&case.image, &case.call, &answer);
+    }
+
+    /// How many comparisons passed and failed so far.
+    pub fn tally(&self) -> (usize, usize) {
+        (self.passed, self.failed)
+    }
+
+    /// Ends the driver, which is to end well, and prints what was reached,
+    /// which is to be all of it. How many comparisons passed and failed.
+    pub fn end(self) -> io::Result<(usize, usize)> {
+        let mut failed = self.failed;
+        if !self.driver.end()? {
+            println!("the driver did not end well");
+            failed += 1;
+        }
+        print!("{}", self.cover.text());
+        for missing in self.cover.missing() {
+            println!("never reached: {missing}");
+            failed += 1;
+        }
+        Ok((self.passed, failed))
+    }
+}
+
+/// A case in words.
+fn told(case: &Case) -> String {
+    format!(
+        "{:?} of {} bytes, family {}",
+        case.call,
+        case.image.len(),
+        case.family
+    )
+}
+
+/// An outcome in words: what was returned, which lent bytes are others than
+/// they should be.
+fn said(outcome: &Outcome, right: &Outcome, case: &Case) -> String {
+    let reads = matches!(case.call, Call::Read { .. } | Call::Salvage { .. });
+    let mut text = format!(
+        "{:#018x}, {}",
+        outcome.returned,
+        in_words(outcome.returned, reads)
+    );
+    if outcome.lent[0] != case.image {
+        text += "; the image changed";
+    }
+    if let Some(at) = (0..right.lent[1].len()).find(|&at| outcome.lent[1][at] != right.lent[1][at])
+    {
+        let (is, should) = (outcome.lent[1][at], right.lent[1][at]);
+        text += &format!("; byte {at} of the output is {is:02x}, not {should:02x}");
+    }
+    if outcome.parts {
+        text += "; the header takes it apart wrongly";
+    }
+    if outcome.around {
+        text += "; bytes that were not lent changed";
+    }
+    text
+}
