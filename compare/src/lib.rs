@@ -13,6 +13,7 @@ pub mod model;
 pub mod odd;
 pub mod options;
 pub mod packed;
+pub mod piped;
 pub mod properties;
 pub mod reading;
 pub mod refusal;

@@ -1,12 +1,8 @@
 //! The library's listing program against the independent one: what it writes
 //! of an image on its standard input.
 
-use compare::listing::listing;
-use compare::make::cases;
-use compare::make::sample::{named, NAMES};
-use compare::options::{Options, SEED, SHOWN};
-use std::io::Write;
-use std::process::{Command, ExitCode, Stdio};
+use compare::{listing, piped};
+use std::process::ExitCode;
 
 const HELP: &str = "\
 listed [--seed N] [--count N] -- COMMAND..
@@ -15,83 +11,6 @@ Runs COMMAND once for each image, the samples and those of so many drawn
 cases, and compares what it writes. The last line is 'N passed, M failed'.
 ";
 
-/// How many bytes of a listing are printed.
-const MOST_SHOWN: usize = 4_000;
-
-/// Images a little above the longest that is listed, 65,536 bytes.
-const LARGEST: usize = 70_000;
-
 fn main() -> ExitCode {
-    let words: Vec<String> = std::env::args().skip(1).collect();
-    let defaults = [("seed", SEED), ("count", 400)];
-    let Some(options) = Options::with_command(&words, &defaults) else {
-        eprint!("{HELP}");
-        return ExitCode::from(2);
-    };
-    let (mut passed, mut failed) = (0, 0);
-    for (name, image) in images(&options) {
-        let (right, is) = (listing(&image), run(&options.command, &image));
-        if is.as_deref() == Ok(&right[..]) {
-            passed += 1;
-            continue;
-        }
-        failed += 1;
-        if failed <= SHOWN {
-            println!("DIFFERENT: {name}, {} bytes", image.len());
-            println!("  the program: {}", shown(&Ok(right)));
-            println!("  the library: {}", shown(&is));
-        }
-    }
-    println!("{passed} passed, {failed} failed");
-    ExitCode::from(u8::from(failed > 0 || passed == 0))
-}
-
-fn images(options: &Options) -> impl Iterator<Item = (String, Vec<u8>)> {
-    let seed = options.number("seed");
-    let samples = NAMES
-        .iter()
-        .map(|name| (format!("sample {name}"), named(name).unwrap_or_default()));
-    let drawn = cases(seed, options.count("count"), LARGEST).enumerate();
-    samples.chain(drawn.map(move |(number, case)| {
-        (
-            format!("seed {seed}, case {number}, family {}", case.family),
-            case.image,
-        )
-    }))
-}
-
-/// What was written, with its first bytes if it is long.
-fn shown(written: &Result<Vec<u8>, String>) -> String {
-    match written {
-        Ok(text) => {
-            let first = &text[..text.len().min(MOST_SHOWN)];
-            format!("{} bytes, {:?}", text.len(), String::from_utf8_lossy(first))
-        }
-        Err(error) => error.clone(),
-    }
-}
-
-/// What the command writes of an image, if it ends well.
-fn run(command: &[String], image: &[u8]) -> Result<Vec<u8>, String> {
-    let (program, words) = command.split_first().ok_or("no command")?;
-    let started = Command::new(program)
-        .args(words)
-        .stdin(Stdio::piped())
-        .stdout(Stdio::piped())
-        .spawn();
-    let mut child = started.map_err(|error| error.to_string())?;
-    let input = child.stdin.take();
-    let lent = image.to_vec();
-    // Beside the reading of what it writes, so that neither waits for the
-    // other. A program may stop reading where the input is too long for it.
-    let writer = std::thread::spawn(move || input.map(|mut input| input.write_all(&lent)));
-    let ended = child
-        .wait_with_output()
-        .map_err(|error| error.to_string())?;
-    drop(writer.join());
-    if ended.status.success() {
-        Ok(ended.stdout)
-    } else {
-        Err(format!("it ended with {}", ended.status))
-    }
+    piped::compared(HELP, listing)
 }
