@@ -33,7 +33,8 @@ add-behind : tie.Need-add-behind
 add-behind c =
     let x = c .before .before .before .before .before .before .before .before .before .before .args in
     let p = c .before .before .before .before .before .before .before .before .before .before .pre in
-    omega (arith, small (now (x .image)) (x .f) (x .w) (p .0) (x .digit) (x .size) (p .1), p .0 .1 .2)
+    let k = facts (now (x .image)) (x .f) (p .0 .0) in
+    omega (arith, small (now (x .image)) (x .f) (x .w) (p .0) (x .digit) (x .size) (p .1), p .0 .1 .2, p .0 .2, k .count-few)
 
 behind-requires : tie.Need-behind-requires
 behind-requires c κs = search needs
