@@ -1,9 +1,11 @@
 /*
- * Calls JUDGE, READ or SALVAGE on the image in a file, so many times over, and prints a number made of all answers of the last time.
+ * Calls JUDGE, READ, SALVAGE or PACE on the image in a file, so many times over, and prints a number made of all answers of the last time.
  *
  *   bench judge IMAGE TIMES
  *   bench read IMAGE TIMES PLACES       one time is a call at each place of the list ('compare walk'), on slot 1
  *   bench salvage IMAGE TIMES PLACES
+ *   bench pace-read IMAGE TIMES         one time is the whole file in slot 1, opened once
+ *   bench pace-salvage IMAGE TIMES
  */
 #include <stdint.h>
 #include <stdio.h>
@@ -13,6 +15,7 @@
 uint64_t JUDGE(const uint8_t *image, uint64_t length);
 uint64_t READ(const uint8_t *image, uint64_t length, uint64_t slot, uint64_t block, uint64_t offset, uint64_t mark, uint8_t *out, uint64_t room);
 uint64_t SALVAGE(const uint8_t *image, uint64_t length, uint64_t slot, uint64_t block, uint64_t offset, uint64_t mark, uint8_t *out, uint64_t room);
+uint64_t PACE(const uint8_t *image, uint64_t length, uint64_t slot, uint64_t salvage, uint8_t *out, uint64_t room);
 
 struct place {
     unsigned long long block, offset, mark;
@@ -59,6 +62,21 @@ static uint64_t judged(long times) {
     return answer;
 }
 
+static uint64_t paced(int salvaging, long times) {
+    uint64_t answers = 0;
+    for (; times > 0; times--)
+        answers = PACE(image, length, 1, salvaging, out, sizeof out);
+    return answers;
+}
+
+/* the number of answers, and what the records have left in the output */
+static void show_paced(uint64_t answers) {
+    uint64_t all = 0xCBF29CE484222325u;
+    for (size_t i = 0; i < 65536; i++)
+        all = (all ^ out[i]) * 0x100000001B3u;
+    printf("%llu-%016llx\n", (unsigned long long)answers, (unsigned long long)all);
+}
+
 /* Only the last time mixes, so that the difference between two times and one is calls alone. */
 static uint64_t walked(int salvaging, long times) {
     uint64_t all = 0xCBF29CE484222325u;
@@ -76,11 +94,16 @@ static uint64_t walked(int salvaging, long times) {
 int main(int count, char **arguments) {
     if (count < 4)
         return 2;
-    int judging = strcmp(arguments[1], "judge") == 0;
-    if (!load_image(arguments[2]) || (!judging && (count != 5 || !load_places(arguments[4]))))
+    int judging = strcmp(arguments[1], "judge") == 0, pacing = strncmp(arguments[1], "pace-", 5) == 0;
+    if (!load_image(arguments[2]) || (!judging && !pacing && (count != 5 || !load_places(arguments[4]))))
         return 1;
     long times = atol(arguments[3]);
-    uint64_t answer = judging ? judged(times) : walked(strcmp(arguments[1], "salvage") == 0, times);
+    int salvaging = strcmp(arguments[1], "salvage") == 0 || strcmp(arguments[1], "pace-salvage") == 0;
+    if (pacing) {
+        show_paced(paced(salvaging, times));
+        return 0;
+    }
+    uint64_t answer = judging ? judged(times) : walked(salvaging, times);
     printf("%016llx\n", (unsigned long long)answer);
     return 0;
 }

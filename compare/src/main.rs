@@ -6,7 +6,7 @@ use compare::listing::{listing, MOST_BYTES};
 use compare::make::sample::{named, NAMES};
 use compare::options::{Options, SEED};
 use compare::properties::check;
-use compare::reading::places;
+use compare::reading::{given, places};
 use std::io::{Read, Write};
 use std::process::ExitCode;
 
@@ -19,6 +19,8 @@ compare cover [--seed N] [--count N]    shows what the made cases reach
 compare check [--seed N] [--count N]    checks the properties on made cases
 compare walk read MOST                  writes how many places reading the file in slot 1 of the image on standard input
 compare walk salvage MOST               leads to, and at most so many of them, evenly taken: block, offset and mark
+compare given read                      writes how many answers reading that file gives before its end, and how many bytes of records
+compare given salvage                   the same of salvage
 compare serve [--wrong N]               answers calls as the C driver does, every Nth wrongly
 compare --help                          shows this text
 ";
@@ -33,6 +35,8 @@ fn main() -> ExitCode {
         ["check", options @ ..] => with_options(options, 5_000, show_check),
         ["walk", "read", most] => walk(false, most),
         ["walk", "salvage", most] => walk(true, most),
+        ["given", "read"] => give(false),
+        ["given", "salvage"] => give(true),
         ["serve"] => serve_calls("0"),
         ["serve", "--wrong", every] => serve_calls(every),
         ["--help" | "-h" | "help"] => print(HELP.as_bytes()),
@@ -88,6 +92,15 @@ fn walk(salvaging: bool, most: &str) -> ExitCode {
         text += &format!("{} {} {mark}\n", place.block, place.offset);
     }
     print(text.as_bytes())
+}
+
+fn give(salvaging: bool) -> ExitCode {
+    let mut image = Vec::new();
+    if std::io::stdin().read_to_end(&mut image).is_err() {
+        return ExitCode::FAILURE;
+    }
+    let (answers, bytes) = given(&image, 1, salvaging);
+    print(format!("{answers} {bytes}\n").as_bytes())
 }
 
 fn serve_calls(every: &str) -> ExitCode {

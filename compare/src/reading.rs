@@ -125,6 +125,22 @@ pub fn places(image: &[u8], slot: u64, salvaging: bool) -> Vec<Place> {
     }
 }
 
+/// How many answers the file gives from Start on, before End or a refusal,
+/// and how many bytes of records.
+pub fn given(image: &[u8], slot: u64, salvaging: bool) -> (u64, u64) {
+    let mut out = vec![0; image.len()];
+    let (mut place, mut answers, mut bytes) = (Place::START, 0, 0);
+    loop {
+        let events = Events::default();
+        match watched(image, slot, place, &mut out, salvaging, &events) {
+            Ok(Reading::Record { length, next }) => (place, bytes) = (next, bytes + length),
+            Ok(Reading::Gap { next }) => place = next,
+            _ => return (answers, bytes),
+        }
+        answers += 1;
+    }
+}
+
 /// Reading or salvage, with what it met noted.
 /// "Reading: 13-19, then 20-22 as blocks are met, 23 last."
 pub fn watched(
@@ -139,9 +155,6 @@ pub fn watched(
     file.accessible()?;
     let survey = file.survey(image, place.block.saturating_mul(file.m as u64))?;
     let count = file.blocks(&survey)?;
-    if !place_in_file(&file, count, place) {
-        return Err(Refusal::bare(19));
-    }
     let reader = Reader {
         image,
         file: &file,
@@ -149,13 +162,75 @@ pub fn watched(
         salvage,
         events,
     };
-    let block = place.block as usize;
-    let first = survey.at.unwrap_or(file.entry.end + 1);
-    let spot = Spot::before(&file, block, place.offset as usize, first);
-    match file.entry.format {
-        Format::Fixed => reader.fixed(spot, out),
-        Format::Variable => reader.variable(spot, out),
-        Format::Spanned => reader.spanned(spot, place.mark, out),
+    reader.at(place, survey.at, out)
+}
+
+/// A file that is opened once and asked for many places.
+pub struct Opened<'a> {
+    image: &'a [u8],
+    file: File,
+    count: usize,
+    /// Whether every record of the extent is good.
+    whole: bool,
+}
+
+impl<'a> Opened<'a> {
+    /// "A file call stops at the first refusal of the volume."
+    /// "Reading: 13-19", of which 19 is a place's.
+    pub fn open(image: &'a [u8], slot: u64) -> Result<Opened<'a>, Refusal> {
+        let file = File::open(image, slot)?;
+        file.accessible()?;
+        let survey = file.survey(image, 0)?;
+        Ok(Opened {
+            image,
+            file,
+            count: file.blocks(&survey)?,
+            whole: survey.good == file.entry.end - file.entry.start + 1,
+        })
+    }
+
+    /// The data record that is the first of a block, if there is one.
+    fn first_of(&self, block: usize) -> Option<usize> {
+        let before = block * self.file.m;
+        let entry = &self.file.entry;
+        if self.whole {
+            let record = entry.start + before;
+            return (record <= entry.end).then_some(record);
+        }
+        let mut good = self.file.good_from(entry.start);
+        for _ in 0..before {
+            good.next(self.image)?;
+        }
+        good.next(self.image).map(|(record, _)| record)
+    }
+
+    /// Plain reading, or salvage, of a place.
+    pub fn at(&self, place: Place, salvage: bool, out: &mut [u8]) -> Result<Reading, Refusal> {
+        let reader = Reader {
+            image: self.image,
+            file: &self.file,
+            count: self.count,
+            salvage,
+            events: &Events::default(),
+        };
+        let first = match usize::try_from(place.block) {
+            Ok(block) if block < self.count => self.first_of(block),
+            _ => None,
+        };
+        reader.at(place, first, out)
+    }
+
+    /// How many answers come before End or a refusal, `most` at most, from
+    /// Start, each at the place that the one before led to.
+    pub fn answers(&self, salvage: bool, out: &mut [u8], most: u64) -> u64 {
+        let mut place = Place::START;
+        for given in 0..most {
+            match self.at(place, salvage, out) {
+                Ok(Reading::Record { next, .. } | Reading::Gap { next }) => place = next,
+                _ => return given,
+            }
+        }
+        most
     }
 }
 
@@ -247,6 +322,21 @@ struct Joining {
 }
 
 impl Reader<'_> {
+    /// The answer at a place whose block begins with that data record.
+    fn at(&self, place: Place, first: Option<usize>, out: &mut [u8]) -> Result<Reading, Refusal> {
+        let file = self.file;
+        if !place_in_file(file, self.count, place) {
+            return Err(Refusal::bare(19));
+        }
+        let first = first.unwrap_or(file.entry.end + 1);
+        let spot = Spot::before(file, place.block as usize, place.offset as usize, first);
+        match file.entry.format {
+            Format::Fixed => self.fixed(spot, out),
+            Format::Variable => self.variable(spot, out),
+            Format::Spanned => self.spanned(spot, place.mark, out),
+        }
+    }
+
     /// "20 | plain reading meets a lost block | block"
     fn meet(&self, spot: &mut Spot) -> Result<Met, Refusal> {
         if spot.number == self.count {

@@ -68,6 +68,18 @@ fn a_walk_tells_the_places_that_reading_leads_to() {
 }
 
 #[test]
+fn a_file_gives_answers_and_bytes() {
+    let given = |name: &str, call: &str| {
+        let image = run(&["sample", name], b"").stdout;
+        String::from_utf8(run(&["given", call], &image).stdout).expect("text")
+    };
+    // Two blocks of 1,280 bytes; one, and a gap; one, of nine good records.
+    assert_eq!(given("F-10", "read"), "32 2560\n");
+    assert_eq!(given("F-10-lost", "salvage"), "17 1280\n");
+    assert_eq!(given("F-10-defect", "read"), "16 1280\n");
+}
+
+#[test]
 fn help_is_printed_and_misuse_is_2() {
     assert!(run(&["--help"], b"").status.success());
     for wrong in [

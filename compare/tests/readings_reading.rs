@@ -3,7 +3,9 @@
 mod common;
 
 use common::{broken, end, gap, read_at, record, salvage_at, shaped, spanned, with_blocks};
-use compare::{read, Place, Reading, Refusal};
+use compare::make::sample::named;
+use compare::reading::{places, Opened};
+use compare::{read, salvage, Place, Reading, Refusal};
 
 const MISSED: Refusal = Refusal {
     number: 19,
@@ -333,4 +335,43 @@ fn r7_10_the_size_of_the_output_plays_no_part_in_gap_and_end() {
 fn r7_11_21_in_salvage_is_a_refusal() {
     let plain = spanned(&[b"X0006a", b"00006y"]);
     assert_eq!(salvage_at(&plain, 0, 0, true), broken(0, 0));
+}
+
+/// Asked for every place that reading leads to, and some that are not in the
+/// file, a file opened once answers as the calls that open it anew.
+#[test]
+fn a_file_opened_once_answers_the_same() {
+    for name in [
+        "F-100",
+        "V-100",
+        "S-100",
+        "F-100-lost",
+        "S-100-lost",
+        "F-100-defect",
+        "V-100-defect",
+        "S-100-defect",
+    ] {
+        let image = named(name).expect("a sample");
+        let opened = Opened::open(&image, 1).expect("a file");
+        for salvaging in [false, true] {
+            let call = if salvaging { salvage } else { read };
+            let mut asked = places(&image, 1, salvaging);
+            let answers = opened.answers(salvaging, &mut [0; 4_000], 1 << 20);
+            assert_eq!((answers, name), (asked.len() as u64 - 1, name));
+            asked.extend(
+                [(0, 3), (5, 1_281), (20, 0), (u64::MAX, 0)]
+                    .map(|(block, offset)| Place::unmarked(block, offset)),
+            );
+            for place in asked {
+                let (mut once, mut anew) = ([0; 4_000], [0; 4_000]);
+                let answer = opened.at(place, salvaging, &mut once);
+                assert_eq!(
+                    answer,
+                    call(&image, 1, place, &mut anew),
+                    "{name} {place:?}"
+                );
+                assert_eq!(once, anew);
+            }
+        }
+    }
 }

@@ -132,8 +132,9 @@ fn bodies(format: u8, capacity: usize) -> Vec<Vec<u8>> {
         .collect()
 }
 
-/// One blocked file, in slot 1, of `F`, `V` or `S` on so many sectors, full.
-fn with_one_file(format: u8, sectors: usize) -> Option<Plain> {
+/// One blocked file, in slot 1, of `F`, `V` or `S` on so many sectors, full;
+/// the middle one of them defective, or none.
+fn with_one_file(format: u8, sectors: usize, defect: bool) -> Option<Plain> {
     let (l, i, d, s) = room(sectors)?;
     let mut plain = Plain::new(l, i, d, 1, s);
     let digits = address_digits(sectors - 1, &plain.geometry);
@@ -148,23 +149,33 @@ fn with_one_file(format: u8, sectors: usize) -> Option<Plain> {
     };
     plain.set(1, 54, record);
     plain.set(1, 63, b"B");
-    let bodies = bodies(format, sectors * 256 / READ_BLOCK);
+    if defect {
+        let kind = plain
+            .geometry
+            .kind_at(plain.geometry.record_ordinal(sectors / 2));
+        plain.image[kind] = 16 + plain.geometry.k;
+        plain.image[kind + 1] = b'F';
+    }
+    let good = sectors - usize::from(defect);
+    let bodies = bodies(format, good * 256 / READ_BLOCK);
     let lengths: Vec<u32> = bodies.iter().map(|body| body.len() as u32).collect();
     let written = crate::write(&mut plain.image, 1, &bodies.concat(), &lengths);
     written.is_ok().then_some(plain)
 }
 
-/// Names as `F-100` and `S-4900-lost`, the latter with its middle block lost.
+/// Names as `F-100`; `S-4900-lost`, with its middle block lost; and
+/// `V-1000-defect`, with its middle record defective.
 pub fn read_sample(name: &str) -> Option<Vec<u8>> {
     let mut words = name.split('-');
     let format = *words.next()?.as_bytes().first()?;
     let sectors: usize = words.next()?.parse().ok()?;
+    let (more, end) = (words.next(), words.next());
     let mut plain = match format {
-        b'F' | b'V' | b'S' => with_one_file(format, sectors)?,
+        b'F' | b'V' | b'S' => with_one_file(format, sectors, more == Some("defect"))?,
         _ => return None,
     };
-    match (words.next(), words.next()) {
-        (None, _) => {}
+    match (more, end) {
+        (None | Some("defect"), None) => {}
         (Some("lost"), None) => {
             let geometry = plain.geometry;
             let middle = crate::count(&plain.image, 1).ok()? as usize / 2;

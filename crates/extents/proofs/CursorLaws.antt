@@ -1,12 +1,13 @@
 -- One step of a cursor, and what it stands on.
 -- Assumes nothing.
-use Prim.Native.Nat.{ℕ, suc, zero, _+_, _-_, _*_, _<_, _≤_}
+use Prim.Native.Nat.{ℕ, suc, zero, _+_, _-_, _<_, _≤_}
 use mathlib.Core.Path.{_≡_, refl, sym, ap, _∙_}
-use mathlib.Core.Bool.{Bool, true, false, cond, not, _&&_}
-use mathlib.Core.List.{List, [], _∷_}
+use mathlib.Core.Bool.{Bool, true, false, cond}
+use mathlib.Core.List.{List, []}
 use lib.ListN.{length, drop}
 use lib.Seq.{drop-drop}
 use lib.Dec.{eqb}
+use borrow.Author.Tests.{ne-eqb}
 use native.Mathlib.Omega.{arith}
 use native.Mathlib.Numerals.{unary-clauses}
 use Rattle.standard.specs.Layout.{incorrectMark, firstByte}
@@ -25,6 +26,10 @@ legal-small g a l s d h =
     let p = parts g a h in
     (p .cylinder-low, omega (arith, p .cylinder-high), omega (arith, p .side-low), p .sector-low, omega (arith, p .sector-high))
 
+-- the number of one look at a record: `w` it is wrong, `d` it is defective
+abbrev pub flaw : Bool → Bool → ℕ
+flaw w d = cond w 2 (cond d 1 0)
+
 -- what the mark and the first byte say of a record
 module _ (g : Geometry) (image : List ℕ) (a : Address) where
   pub defect-none : incorrectMark g image (ordinal g a) ≡ false → isDefective g image a ≡ false
@@ -35,13 +40,17 @@ module _ (g : Geometry) (image : List ℕ) (a : Address) where
   unfolding isDefective
   defect-first h = simp h
 
-  pub wrong-none : incorrectMark g image (ordinal g a) ≡ false → isWrong g image a ≡ false
-  unfolding isWrong
-  wrong-none h = simp h
+  pub flaw-none : incorrectMark g image (ordinal g a) ≡ false → flaw (isWrong g image a) (isDefective g image a) ≡ 0
+  unfolding isDefective isWrong
+  flaw-none h = simp h
 
-  pub wrong-first : incorrectMark g image (ordinal g a) ≡ true → isWrong g image a ≡ not (eqb (firstByte g image (ordinal g a)) 70)
-  unfolding isWrong
-  wrong-first h = simp h
+  pub flaw-first : incorrectMark g image (ordinal g a) ≡ true → firstByte g image (ordinal g a) ≡ 70 → flaw (isWrong g image a) (isDefective g image a) ≡ 1
+  unfolding isDefective isWrong
+  flaw-first h f = simp (h, f)
+
+  pub flaw-other : incorrectMark g image (ordinal g a) ≡ true → (firstByte g image (ordinal g a) ≡ 70 → ⊥) → flaw (isWrong g image a) (isDefective g image a) ≡ 2
+  unfolding isDefective isWrong
+  flaw-other h f = simp (h, ne-eqb (firstByte g image (ordinal g a)) 70 f)
 
 -- a cursor with an address left
 pub legal-head : (g : Geometry) (left : ℕ) (a : Address) → 0 < left → legalOn g left a ≡ true → legal g a ≡ true

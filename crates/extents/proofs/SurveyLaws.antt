@@ -4,6 +4,7 @@ use Prim.Native.Nat.{ℕ, suc, zero, _-_, _<_, _≤_}
 use mathlib.Core.Path.{_≡_, refl, sym, ap, _∙_}
 use mathlib.Core.Bool.{Bool, true, false, cond, _||_}
 use mathlib.Core.List.{List, [], _∷_}
+use lib.Dec.{eqb}
 use native.Mathlib.Omega.{arith}
 use native.Mathlib.Numerals.{unary-clauses}
 use Rattle.standard.specs.Addresses.{stepped, ordinal}
@@ -16,6 +17,18 @@ use Rattle.promises.specs.Basics.{by-test, or-l, or-r}
 use Rattle.extents.specs.Surveys.{surveyed}
 use Rattle.extents.specs.declared.Condition.{Condition}
 use Rattle.extents.specs.declared.Condition.the-variants.{Wrong, Whole, Holed}
+use Rattle.extents.proofs.CursorLaws.{flaw}
+
+-- what the number of one look says
+pub flaw-stop : (w d : Bool) → flaw w d ≡ 2 → w ≡ true
+flaw-stop true d e = refl
+flaw-stop false true e = absurd (omega (arith, e))
+flaw-stop false false e = absurd (omega (arith, e))
+
+pub flaw-more : (w d : Bool) → (flaw w d ≡ 2 → ⊥) → (w ≡ false) × (eqb (flaw w d) 1 ≡ d)
+flaw-more true d e = absurd (e refl)
+flaw-more false true e = (refl, refl)
+flaw-more false false e = (refl, refl)
 
 module _ (g : Geometry) (image : List ℕ) (holed : Bool) where
   pub survey-more : (left : ℕ) (a : Address) → 0 < left → isWrong g image a ≡ false

@@ -41,16 +41,19 @@ pub fn is_defective(g: Geometry, image: &[u8], a: Address) -> bool
     first_byte(g, image, n) == 70
 }
 
-// "incorrect mark, not `F`"
-pub fn is_wrong(g: Geometry, image: &[u8], a: Address) -> bool
+// One look at a record: 2 if it is wrong ("incorrect mark, not `F`"), 1 if it is defective, else 0. A walk over all records asks this once of each.
+fn flaw_of(g: Geometry, image: &[u8], a: Address) -> u64
     requires { ⌜ legal g a ≡ true ⌝ }
-    ensures { λ r. ⌜ r ≡ isWrong g (now (image .entry)) a ⌝ }
+    ensures { λ r. ⌜ r ≡ cond (isWrong g (now (image .entry)) a) 2 (cond (isDefective g (now (image .entry)) a) 1 0) ⌝ }
 {
     let n = ordinal_of(g, a);
-    if !incorrect_mark(g, image, n) {
-        return false;
+    if incorrect_mark(g, image, n) {
+        if first_byte(g, image, n) == 70 {
+            return 1;
+        }
+        return 2;
     }
-    !(first_byte(g, image, n) == 70)
+    0
 }
 
 // One walk over all records from a cursor on.
@@ -62,10 +65,11 @@ pub fn survey(g: Geometry, image: &[u8], from: Cursor) -> Condition
     let mut left = from.left;
     let mut holed = false;
     while 0 < left {
-        if is_wrong(g, image, at) {
+        let flaw = flaw_of(g, image, at);
+        if flaw == 2 {
             return Condition::Wrong(ordinal_of(g, at));
         }
-        holed = holed | is_defective(g, image, at);
+        holed = holed | (flaw == 1);
         at = at.step(g);
         left -= 1;
     }

@@ -187,3 +187,42 @@ pub fn next_start(image: &[u8], f: FileNumbers, b: u64, c: Cursor) -> Cursor
 {
     skip_good(f.g, image, c, f.m)
 }
+
+// A block of the file, and a cursor on its first record.
+pub struct Seat {
+    pub block: u64,
+    pub at: Cursor,
+}
+
+// The seat of the file's first block.
+pub fn first_seat(image: &[u8], f: FileNumbers) -> Seat
+    requires { ⌜ Opened (now image) f ⌝ }
+    ensures { λ r. ⌜ Seated (now (image .entry)) f (r .block) (r .at) ⌝ }
+{
+    Seat {
+        block: 0,
+        at: block_start(image, f, 0),
+    }
+}
+
+// From a seat to that of another block. Where a record of the extent is defective this is a walk, so it goes on from the seat if it can: a file that is read
+// from block to block is walked once.
+pub fn seat_at(image: &[u8], f: FileNumbers, s: Seat, b: u64) -> Seat
+    requires { ⌜ (Opened (now image) f) × (Seated (now image) f (s .block) (s .at)) × (b ≤ f .count) ⌝ }
+    ensures { λ r. ⌜ (Seated (now (image .entry)) f b (r .at)) × (r .block ≡ b) ⌝ }
+{
+    let block = s.block;
+    if b == block {
+        return s;
+    }
+    if f.whole | (b < block) {
+        return Seat {
+            block: b,
+            at: block_start(image, f, b),
+        };
+    }
+    Seat {
+        block: b,
+        at: skip_good(f.g, image, s.at, (b - block) * f.m),
+    }
+}

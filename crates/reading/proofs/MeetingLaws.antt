@@ -126,6 +126,14 @@ module _ (image : List ℕ) (f : FileNumbers) (s : Bool) where
       → (metFrom image f s w [] ≡ metWith (grown image f w [] (lengthIn x)) x) × (ReachedBy image f w x)
   done-says w x t h e z = let r = subst (Turned image f s w) e h in (r .0 [] (sym z), r .1)
 
+  -- a turn by which nothing of a record has come
+  pub on-same : (w v : Walk) (t : Turn) → Turned image f s w t → t ≡ On v → lengthOf (w .stand) ≡ 0 → lengthOf (v .stand) ≡ 0
+      → metFrom image f s w [] ≡ metFrom image f s v []
+  on-same w v t h e z y =
+      let r = subst (Turned image f s w) e h in
+      let none : lengthOf (v .stand) - lengthOf (w .stand) ≡ 0 = omega (arith, z, y) in
+      r .0 [] (sym z) ∙ ap (λ (n : ℕ). metFrom image f s v (take n (bodyAhead image f w))) none
+
   -- one turn, and then what was measured further on
   pub measures-on : (w v : Walk) (x : Measured) (t : Turn) → Turned image f s w t → t ≡ On v → Measures image f s v x → lengthOf (w .stand) ≡ 0
       → x ≡ measured (metFrom image f s w [])

@@ -32,6 +32,7 @@ use Rattle.labels.specs.declared.Form.{Form}
 use Rattle.labels.specs.declared.Form.the-variants.{Fixed, Variable, Spanned}
 use Rattle.opening.specs.Opened.{fileNumbers, openOr, openingIn, labelIn, fileOf, Opened, sizeAt, insideBy, Seated}
 use Rattle.opening.specs.declared.FileNumbers.{FileNumbers}
+use Rattle.opening.specs.declared.Seat.{Seat}
 use Rattle.opening.specs.declared.Opening.{Opening}
 use Rattle.opening.specs.declared.Opening.the-variants.{Shut, Open}
 use Rattle.opening.proofs.OpenedLaws.{facts, opened-of, shut-of}
@@ -145,8 +146,11 @@ module _ (image : List ℕ) (f : FileNumbers) (w : Walk) (z : lengthOf (w .stand
       ∙ (paste-laid out (bodyAhead image f w) (n - a) (omega (arith, reach .0, reach .1))
       ∙ ap (λ (b : List ℕ). laidOver b out) (sym (once-body x (grown image f w [] n) (length out) h))))
 
-pub answers-met : (image : List ℕ) (f : FileNumbers) (met met′ : Met) (out after : List ℕ) (a : Answer) → met ≡ met′ → Answers image f met′ out after a → Answers image f met out after a
-answers-met image f met met′ out after a e h = subst (λ (m : Met). Answers image f m out after a) (sym e) h
+-- what is met further on, into the same output
+pub answers-from : (image : List ℕ) (f : FileNumbers) (met met′ : Met) (out out′ after : List ℕ) (a : Answer) → met ≡ met′ → out′ ≡ out
+    → Answers image f met′ out′ after a → Answers image f met out after a
+answers-from image f met met′ out out′ after a e o h =
+    subst (λ (m : Met). Answers image f m out after a) (sym e) (subst (λ (x : List ℕ). Answers image f met′ x after a) o h)
 
 -- "In plain reading, at offsets above 0, and in F and V, the mark counts as absent."
 pub enters-fresh : (s mark : Bool) (form : Form) (o : ℕ) → ((s && mark) && eqb o 0) ≡ false → fresh ≡ entering (modeOf s) (formatFor form) o mark
@@ -189,6 +193,9 @@ place-low image f pl o h =
 pub walking-start : (image : List ℕ) (f : FileNumbers) (w : Walk) → Seated image f (w .place .block) (w .at) → w .place .block ≤ f .count → w .place .offset < 65536
     → lengthOf (w .stand) ≡ 0 → Walking image f w
 walking-start image f w s b o z = (s, b, o, omega (arith, z))
+
+pub seat-same : (image : List ℕ) (f : FileNumbers) (s : Seat) (b : ℕ) → s .block ≡ b → Seated image f b (s .at) → Seated image f (s .block) (s .at)
+seat-same image f s b e h = rw e h
 
 module _ (m : Mode) (file : File) (pl : Place) (room : ℕ) where
   pub reply-19 : inFile file pl ≡ false → replyIn m file pl room ≡ unanswered (refuse 19 0)

@@ -5,9 +5,11 @@ use blocks::onward;
 use labels::Form;
 use opening::FileNumbers;
 use opening::Opening;
-use opening::block_start;
+use opening::Seat;
+use opening::first_seat;
 use opening::in_file;
 use opening::open_in;
+use opening::seat_at;
 use pieces::head;
 use standard::Answer;
 use standard::Judged;
@@ -32,7 +34,7 @@ ghost use Rattle.standard.specs.Refusals.{refuse};
 ghost use Rattle.standard.specs.Records.{plain, salvage, entering};
 ghost use Rattle.standard.specs.Reading.{replyIn, readAnswer, laidOver, outputAfter};
 ghost use Rattle.labels.specs.Forms.{formatFor};
-ghost use Rattle.opening.specs.Opened.{fileOf, Opened};
+ghost use Rattle.opening.specs.Opened.{fileOf, Opened, Seated};
 ghost use Rattle.walks.specs.Stands.{lengthOf, lengthIn, stateWith, metWith, measured};
 ghost use Rattle.walks.specs.Walks.{modeOf, metFrom, Walking, bodyAhead, Reached, ReachedBy, grown};
 ghost use Rattle.reading.specs.Answers.{Measures, Room, bodyIn, answeredBy, fitsIn, Answers};
@@ -177,20 +179,29 @@ fn at_length(
     answered(f.count, x, room)
 }
 
-// The answer to a reader on its way.
-fn read_from(image: &[u8], f: FileNumbers, salvage: bool, w: Walk, out: &mut [u8]) -> Answer
-    requires { ⌜ (Opened (now image) f) × (Walking (now image) f w) × (lengthOf (w .stand) ≡ 0) ⌝ }
-    ensures { λ r. ⌜ Answers (now (image .entry)) f (metFrom (now (image .entry)) f salvage w []) (now (out .entry)) (now (out .exit)) r ⌝ }
+// The answer to a reader on its way. As long as nothing of a record has come, a turn only leads further.
+fn read_from(image: &[u8], f: FileNumbers, salvage: bool, from: Walk, out: &mut [u8]) -> Answer
+    requires { ⌜ (Opened (now image) f) × (Walking (now image) f from) × (lengthOf (from .stand) ≡ 0) ⌝ }
+    ensures { λ r. ⌜ Answers (now (image .entry)) f (metFrom (now (image .entry)) f salvage from []) (now (out .entry)) (now (out .exit)) r ⌝ }
 {
-    if f.count <= w.place.block {
-        let stand = w.stand;
-        return answered(f.count, at_end(stand), out.len() as u64);
+    let mut w = from;
+    while w.place.block < f.count {
+        let t = take_turn(image, f, salvage, w);
+        match t {
+            Turn::Done(x) => {
+                return at_once(image, f, w, x, out);
+            }
+            Turn::On(v) => {
+                let stand = v.stand;
+                if 0 < length_of(stand) {
+                    return at_length(image, f, salvage, w, measure(image, f, salvage, v), out);
+                }
+                w = v;
+            }
+        }
     }
-    let t = take_turn(image, f, salvage, w);
-    match t {
-        Turn::Done(x) => at_once(image, f, w, x, out),
-        Turn::On(v) => at_length(image, f, salvage, w, measure(image, f, salvage, v), out),
-    }
+    let stand = w.stand;
+    answered(f.count, at_end(stand), out.len() as u64)
 }
 
 // "In plain reading, at offsets above 0, and in F and V, the mark counts as absent."
@@ -208,26 +219,47 @@ fn stand_at(form: Form, salvage: bool, place: Place) -> Stand
     }
 }
 
+// An answer, and the seat of the block where its reading began: the next reading goes on from there.
+pub struct Heard {
+    pub answer: Answer,
+    pub seat: Seat,
+}
+
 // A place of an opened file; 19 "place not in the file". (Inner: this is reading without judging the volume again.)
-pub fn read_at(image: &[u8], f: FileNumbers, salvage: bool, place: Place, out: &mut [u8]) -> Answer
-    requires { ⌜ Opened (now image) f ⌝ }
-    ensures { λ r. ⌜ (r ≡ replyIn (modeOf salvage) (fileOf (now (image .entry)) f) place (length (now (out .entry))) .answer) × (now (out .exit) ≡ laidOver (replyIn (modeOf salvage) (fileOf (now (image .entry)) f) place (length (now (out .entry))) .body) (now (out .entry))) ⌝ }
+pub fn read_on(
+    image: &[u8],
+    f: FileNumbers,
+    salvage: bool,
+    seat: Seat,
+    place: Place,
+    out: &mut [u8],
+) -> Heard
+    requires { ⌜ (Opened (now image) f) × (Seated (now image) f (seat .block) (seat .at)) ⌝ }
+    ensures { λ r. ⌜ (r .answer ≡ replyIn (modeOf salvage) (fileOf (now (image .entry)) f) place (length (now (out .entry))) .answer) × (now (out .exit) ≡ laidOver (replyIn (modeOf salvage) (fileOf (now (image .entry)) f) place (length (now (out .entry))) .body) (now (out .entry))) × (Seated (now (image .entry)) f (r .seat .block) (r .seat .at)) ⌝ }
 {
     if !in_file(f, place) {
-        return Answer::Unanswered(Refusal {
-            number: 19,
-            first: 0,
-            second: 0,
-            third: 0,
-        });
+        return Heard {
+            answer: Answer::Unanswered(Refusal {
+                number: 19,
+                first: 0,
+                second: 0,
+                third: 0,
+            }),
+            seat: seat,
+        };
     }
     let form = f.form;
+    let s = seat_at(image, f, seat, place.block);
+    let at = s.at;
     let w = Walk {
         place: place,
-        at: block_start(image, f, place.block),
+        at: at,
         stand: stand_at(form, salvage, place),
     };
-    read_from(image, f, salvage, w, out)
+    Heard {
+        answer: read_from(image, f, salvage, w, out),
+        seat: s,
+    }
 }
 
 // A place of the file in a slot. "A file call stops at the first refusal of the volume."
@@ -241,7 +273,10 @@ fn answer_at(image: &[u8], slot: u64, salvage: bool, place: Place, out: &mut [u8
     let o = open_in(g, image, slot);
     match o {
         Opening::Shut(r) => Answer::Unanswered(r),
-        Opening::Open(f) => read_at(image, f, salvage, place, out),
+        Opening::Open(f) => {
+            let heard = read_on(image, f, salvage, first_seat(image, f), place, out);
+            heard.answer
+        }
     }
 }
 

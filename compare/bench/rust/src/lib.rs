@@ -61,3 +61,22 @@ pub unsafe extern "C" fn rust_salvage(
         out,
     ))
 }
+
+/// # Safety
+/// As of `rust_read`.
+#[no_mangle]
+pub unsafe extern "C" fn rust_pace(
+    image: *const u8,
+    length: u64,
+    slot: u64,
+    salvage: u64,
+    out: *mut u8,
+    room: u64,
+) -> u64 {
+    let image = from_raw_parts(image, length as usize);
+    let out = from_raw_parts_mut(out, room as usize);
+    match reading::Opened::open(image, slot) {
+        Ok(opened) => opened.answers(salvage != 0, out, 1 << 20),
+        Err(_) => 0,
+    }
+}

@@ -1,17 +1,16 @@
 -- The walk from the start is the walk from here.
 -- Assumes nothing.
-use Prim.Native.Nat.{_-_, _≤_, _<_}
 use mathlib.Core.Path.{_≡_, refl, sym, ap, _∙_}
-use mathlib.Core.Bool.{Bool, true, false, cond}
+use mathlib.Core.Bool.{Bool, true, cond}
 use native.Mathlib.Omega.{arith}
 use denote.Ref.{now}
 use borrow.Author.Needs.{needs}
-use Rattle.standard.specs.Files.{addressesFrom}
+use Rattle.standard.specs.Files.{addressesFrom, isDefective, isWrong}
 use Rattle.extents.specs.declared.Condition.the-variants.{Wrong, Whole, Holed}
 use Rattle.extents.specs.Cursors.{legalOn}
 use Rattle.extents.specs.Surveys.{surveyed}
 use Rattle.extents.proofs.CursorLaws.{legal-small, legal-head, legal-next}
-use Rattle.extents.proofs.SurveyLaws.{survey-more, survey-stop, survey-end}
+use Rattle.extents.proofs.SurveyLaws.{flaw-stop, flaw-more, survey-more, survey-stop, survey-end}
 use Rattle.extents.proofs.survey.Statement.{statement}
 use Rattle.extents.proofs.survey.Tie as tie
 
@@ -24,8 +23,8 @@ abbrev μ-loop : tie.MeasureT-loop
 loop-holds : tie.Need-loop-holds Inv-loop μ-loop
 loop-holds c = (refl, search needs)
 
-is-wrong-requires : tie.Need-is-wrong-requires Inv-loop μ-loop
-is-wrong-requires c κs = legal-head _ _ _ (omega arith) (c .before .loop .inv .1)
+flaw-of-requires : tie.Need-flaw-of-requires Inv-loop μ-loop
+flaw-of-requires c κs = legal-head _ _ _ (omega arith) (c .before .loop .inv .1)
 
 ordinal-of-requires : tie.Need-ordinal-of-requires Inv-loop μ-loop
 ordinal-of-requires c κs =
@@ -37,11 +36,8 @@ returns : tie.Need-returns Inv-loop μ-loop
 returns c =
     let x = c .before .before .before .before .before .before .before .args in
     let w = c .before .before .before .before .loop in
-    sym (w .inv .0 ∙ survey-stop (x .g) (now (x .image)) (w .holed) (w .left) (w .at) (omega arith) (sym (c .before .before .is-wrong .ensures) ∙ c .before .if1 .taken)
-    ∙ ap Wrong (sym (c .ordinal-of .ensures .0)))
-
-is-defective-requires : tie.Need-is-defective-requires Inv-loop μ-loop
-is-defective-requires c κs = legal-head _ _ _ (omega arith) (c .before .before .before .loop .inv .1)
+    let f = flaw-stop (isWrong (x .g) (now (x .image)) (w .at)) (isDefective (x .g) (now (x .image)) (w .at)) (sym (c .before .before .flaw-of .ensures) ∙ c .before .if1 .taken) in
+    sym (w .inv .0 ∙ survey-stop (x .g) (now (x .image)) (w .holed) (w .left) (w .at) (omega arith) f ∙ ap Wrong (sym (c .ordinal-of .ensures .0)))
 
 step-requires : tie.Need-step-requires Inv-loop μ-loop
 step-requires c κs = search needs
@@ -54,10 +50,12 @@ loop-less c = search needs
 
 loop-again : tie.Need-loop-again Inv-loop μ-loop
 loop-again c =
-    let x = c .before .before .before .before .before .before .before .before .args in
-    let w = c .before .before .before .before .before .loop in
-    let s = survey-more (x .g) (now (x .image)) (w .holed) (w .left) (w .at) (omega arith) (sym (c .before .before .before .is-wrong .ensures) ∙ c .before .before .if1 .left) in
-    rw (c .step .ensures, c .before .is-defective .ensures) (w .inv .0 ∙ s, legal-next _ _ _ (omega arith) (w .inv .1))
+    let x = c .before .before .before .before .before .before .before .args in
+    let w = c .before .before .before .before .loop in
+    let r = c .before .before .flaw-of .ensures in
+    let f = flaw-more (isWrong (x .g) (now (x .image)) (w .at)) (isDefective (x .g) (now (x .image)) (w .at)) (λ e. c .before .if1 .left (r ∙ e)) in
+    let s = survey-more (x .g) (now (x .image)) (w .holed) (w .left) (w .at) (omega arith) (f .0) in
+    rw (c .step .ensures, r, f .1) (w .inv .0 ∙ s, legal-next _ _ _ (omega arith) (w .inv .1))
 
 returns-2 : tie.Need-returns-2 Inv-loop μ-loop
 returns-2 c =
@@ -78,10 +76,9 @@ survey-spec =
     Inv-loop
     μ-loop
     loop-holds
-    is-wrong-requires
+    flaw-of-requires
     ordinal-of-requires
     returns
-    is-defective-requires
     step-requires
     sub-left
     loop-less

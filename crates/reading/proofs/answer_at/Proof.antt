@@ -1,7 +1,6 @@
 -- The volume, then the slot, then the place.
 -- Assumes nothing.
 use mathlib.Core.Path.{_≡_, refl, sym, ap, _∙_}
-use native.Mathlib.Omega.{arith}
 use denote.Ref.{now}
 use Rattle.standard.specs.declared.Answer.the-variants.{Unanswered}
 use Rattle.volume.specs.Stages.{refusalOf}
@@ -39,10 +38,15 @@ enum-known-o c = search needs
 enum-known-o-2 : tie.Need-enum-known-o-2
 enum-known-o-2 c = search needs
 
-read-at-requires : tie.Need-read-at-requires
-read-at-requires c κs =
-    let x = c .before .before .before .before .before .before .before .before .before .before .before .args in
-    opened-of (now (x .image)) _ (x .slot) _ (sym (c .before .before .before .before .before .before .before .before .judge .ensures) ∙ c .before .before .before .before .before .before .j .given .1) (sym (c .before .before .before .before .open-in .ensures) ∙ c .before .before .o2 .given .1)
+first-seat-requires : tie.Need-first-seat-requires
+first-seat-requires c κs =
+    let x = c .before .before .before .before .before .before .before .before .before .before .args in
+    opened-of (now (x .image)) _ (x .slot) _ (sym (c .before .before .before .before .before .before .before .judge .ensures) ∙ c .before .before .before .before .before .j .given .1) (sym (c .before .before .before .open-in .ensures) ∙ c .before .o2 .given .1)
+
+read-on-requires : tie.Need-read-on-requires
+read-on-requires c κs =
+    let x = c .before .before .before .before .before .before .before .before .before .before .before .before .args in
+    (opened-of (now (x .image)) _ (x .slot) _ (sym (c .before .before .before .before .before .before .before .before .before .judge .ensures) ∙ c .before .before .before .before .before .before .before .j .given .1) (sym (c .before .before .before .before .before .open-in .ensures) ∙ c .before .before .before .o2 .given .1), c .before .first-seat .ensures)
 
 returns-2 : tie.Need-returns-2
 returns-2 c =
@@ -54,8 +58,9 @@ same-length c = search needs
 
 returns-3 : tie.Need-returns-3
 returns-3 c =
-    let x = c .before .before .before .before .before .before .before .before .before .before .before .before .before .before .args in
-    answer-open (modeOf (x .salvage)) (now (x .image)) (x .slot) (x .place) (now (x .out)) _ _ _ _ (sym (c .before .before .before .before .before .before .before .before .before .before .before .judge .ensures) ∙ c .before .before .before .before .before .before .before .before .before .j .given .1) (sym (c .before .before .before .before .before .before .before .open-in .ensures) ∙ c .before .before .before .before .before .o2 .given .1) (c .before .before .read-at .ensures)
+    let x = c .before .before .before .before .before .before .before .before .before .before .before .before .before .before .before .args in
+    let r = c .before .before .read-on .ensures in
+    answer-open (modeOf (x .salvage)) (now (x .image)) (x .slot) (x .place) (now (x .out)) _ _ _ _ (sym (c .before .before .before .before .before .before .before .before .before .before .before .before .judge .ensures) ∙ c .before .before .before .before .before .before .before .before .before .before .j .given .1) (sym (c .before .before .before .before .before .before .before .before .open-in .ensures) ∙ c .before .before .before .before .before .before .o2 .given .1) (r .0, r .1)
 
 pub answer-at-spec : {M : Type 1} → statement M
 answer-at-spec =
@@ -69,7 +74,8 @@ answer-at-spec =
     open-in-requires
     enum-known-o
     enum-known-o-2
-    read-at-requires
+    first-seat-requires
+    read-on-requires
     returns-2
     same-length
     returns-3)
