@@ -7,10 +7,10 @@ use mathlib.Core.List.{List, [], _∷_, _++_}
 use lib.ListN.{length, length-append}
 use native.Mathlib.Omega.{arith}
 use Rattle.standard.specs.Labels.{Params}
-use Rattle.standard.specs.Pieces.{Role, whole, first, middle, last, Token, part, bad, lost}
-use Rattle.standard.specs.Records.{Mode, State, fresh, marked, within, Met, took, gapped, ended, refused, Move, deliver, carry, breach, over, meet, afterMove, answer, atLost, plain, salvage}
+use Rattle.standard.specs.Pieces.{whole, first, middle, last, Token, part, bad, lost}
+use Rattle.standard.specs.Records.{Mode, within, deliver, carry, breach, over, afterMove, answer, atLost, plain, salvage}
 use Rattle.standard.specs.declared.Place.{Place}
-use Rattle.walks.specs.Stands.{lengthOf, stateWith, measured, lengthIn}
+use Rattle.walks.specs.Stands.{lengthOf, stateWith, measured}
 use Rattle.walks.specs.declared.Stand.{Stand}
 use Rattle.walks.specs.declared.Stand.the-variants.{Fresh, Marked, Within}
 use Rattle.walks.specs.declared.Measured.{Measured}

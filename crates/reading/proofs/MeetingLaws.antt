@@ -1,15 +1,14 @@
 -- Measuring and delivering, turn by turn: what a walk meets is what was met from its start.
 -- Assumes nothing.
-use Prim.Native.Nat.{ℕ, _+_, _-_, _*_, _<_, _≤_}
+use Prim.Native.Nat.{ℕ, _+_, _-_, _<_, _≤_}
 use mathlib.Core.Path.{_≡_, refl, sym, ap, subst, _∙_}
-use mathlib.Core.Bool.{Bool, true, false}
-use mathlib.Core.List.{List, [], _∷_, _++_}
+use mathlib.Core.Bool.{Bool}
+use mathlib.Core.List.{List, [], _++_}
 use lib.ListN.{length, take, drop, replicate, length-replicate, length-append, length-take, drop-of-length-le, take-append-drop}
 use lib.Seq.{paste, length-paste, take-paste, drop-paste, drop-drop}
 use native.Mathlib.Omega.{arith}
-use Rattle.standard.specs.Labels.{Params}
 use Rattle.standard.specs.Pieces.{ahead}
-use Rattle.standard.specs.Records.{State, fresh, marked, within, Met, took, gapped, ended, refused, atEnd, answer}
+use Rattle.standard.specs.Records.{State, fresh, marked, within, Met, took, gapped, ended, refused, atEnd}
 use Rattle.standard.specs.Reading.{laidOver}
 use Rattle.standard.specs.declared.Place.{Place}
 use Rattle.promises.specs.SalvageImage.{file-count}

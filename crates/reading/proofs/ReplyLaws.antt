@@ -1,22 +1,21 @@
 -- From what is met to the reply, and the exits of a reading.
 -- Assumes nothing.
-use Prim.Native.Nat.{ℕ, zero, suc, _+_, _-_, _*_, _<_, _≤_}
+use Prim.Native.Nat.{ℕ, zero, suc, _-_, _<_, _≤_}
 use mathlib.Core.Path.{_≡_, refl, sym, ap, subst, _∙_}
-use mathlib.Core.Bool.{Bool, true, false, cond, not, _&&_}
-use mathlib.Core.List.{List, [], _∷_, _++_}
-use lib.ListN.{length, take, drop}
+use mathlib.Core.Bool.{Bool, true, false, _&&_}
+use mathlib.Core.List.{List, []}
+use lib.ListN.{length}
 use lib.Seq.{paste}
 use lib.Dec.{leb, ltb, eqb}
 use native.Mathlib.Omega.{arith}
-use borrow.Author.Tests.{lt-ltb, le-ltb, leb-true, leb-false, ltb-true, ltb-false, eqb-true}
+use borrow.Author.Tests.{lt-ltb, le-ltb, leb-true, leb-false, ltb-true, eqb-true}
 use Rattle.standard.specs.Refusals.{refuse}
-use Rattle.standard.specs.Layout.{labelAt}
-use Rattle.standard.specs.Labels.{Format, fixed, variable, spanned}
+use Rattle.standard.specs.Labels.{Format}
 use Rattle.standard.specs.Judgement.{judged}
 use Rattle.standard.specs.Files.{openRefusal, fileIn}
 use Rattle.standard.specs.Pieces.{ahead}
-use Rattle.standard.specs.Records.{Mode, plain, salvage, File, State, fresh, marked, within, Met, took, gapped, ended, refused, answer, entering, aligned, inFile, step}
-use Rattle.standard.specs.Reading.{Reply, unanswered, delivered, replied, replyIn, opened, reply, readAnswer, laidOver, outputAfter}
+use Rattle.standard.specs.Records.{Mode, File, fresh, marked, Met, took, gapped, ended, refused, answer, entering, aligned, inFile, step}
+use Rattle.standard.specs.Reading.{Reply, unanswered, replied, replyIn, reply, readAnswer, laidOver, outputAfter}
 use Rattle.standard.specs.declared.Geometry.{Geometry}
 use Rattle.standard.specs.declared.Place.{Place}
 use Rattle.standard.specs.declared.Refusal.{Refusal}
@@ -24,7 +23,7 @@ use Rattle.standard.specs.declared.Checked.{Checked}
 use Rattle.standard.specs.declared.Checked.the-variants.{Passed, Stopped}
 use Rattle.standard.specs.declared.Judged.the-variants.{Refused, Volume}
 use Rattle.standard.specs.declared.Answer.{Answer}
-use Rattle.standard.specs.declared.Answer.the-variants.{Unanswered, Record as RecordOf, Gap, End}
+use Rattle.standard.specs.declared.Answer.the-variants.{Unanswered, Record as RecordOf}
 use Rattle.promises.specs.Basics.{by-test, and-l, and-r, never}
 use Rattle.promises.specs.SalvageImage.{file-count}
 use Rattle.labels.specs.Forms.{formatFor}
@@ -35,19 +34,17 @@ use Rattle.opening.specs.declared.FileNumbers.{FileNumbers}
 use Rattle.opening.specs.declared.Seat.{Seat}
 use Rattle.opening.specs.declared.Opening.{Opening}
 use Rattle.opening.specs.declared.Opening.the-variants.{Shut, Open}
-use Rattle.opening.proofs.OpenedLaws.{facts, opened-of, shut-of}
+use Rattle.opening.proofs.OpenedLaws.{facts, shut-of}
 use Rattle.blocks.proofs.CopyLaws.{paste-laid}
 use Rattle.walks.specs.Stands.{lengthOf, stateWith, metWith, measured, lengthIn, endedBy}
-use Rattle.walks.specs.Walks.{modeOf, metFrom, Walking, bodyAhead, Reached, grown, ReachedBy, Turned}
+use Rattle.walks.specs.Walks.{modeOf, metFrom, Walking, bodyAhead, Reached, grown, ReachedBy}
 use Rattle.walks.specs.declared.Stand.{Stand}
 use Rattle.walks.specs.declared.Stand.the-variants.{Fresh, Marked, Within}
 use Rattle.walks.specs.declared.Measured.{Measured}
 use Rattle.walks.specs.declared.Measured.the-variants.{Took, Lost, Ended, Failed}
 use Rattle.walks.specs.declared.Walk.{Walk}
-use Rattle.walks.specs.declared.Turn.{Turn}
-use Rattle.walks.specs.declared.Turn.the-variants.{Done, On}
 use Rattle.walks.proofs.WalkLaws.{size-most}
-use Rattle.reading.specs.Answers.{Measures, Room, bodyIn, answeredBy, fitsIn, Answers}
+use Rattle.reading.specs.Answers.{Room, bodyIn, answeredBy, fitsIn, Answers}
 use Rattle.reading.proofs.MeetingLaws.{end-measured, met-end}
 
 -- 23 or the record

@@ -10,8 +10,8 @@ use lib.Dec.{ltb, eqb}
 use native.Mathlib.Omega.{arith}
 use borrow.Author.Tests.{lt-ltb, le-ltb, eq-eqb, ne-eqb, eqb-true, eqb-false}
 use Rattle.standard.specs.Labels.{Format, fixed, variable, spanned, Params}
-use Rattle.standard.specs.Pieces.{Role, whole, first, middle, last}
-use Rattle.standard.specs.Records.{State, fresh, marked, within, Move as MoveOf, deliver, carry, breach, overIn, over, meet, refuse20}
+use Rattle.standard.specs.Pieces.{whole, first, middle, last}
+use Rattle.standard.specs.Records.{within, deliver, carry, breach, overIn, over, meet, refuse20}
 use Rattle.standard.specs.Places.{nextBlock, afterGap}
 use Rattle.standard.specs.declared.Place.{Place}
 use Rattle.promises.specs.Basics.{cond-elim, by-test, or-l, or-r, or-rest}

@@ -7,8 +7,8 @@ use mathlib.Core.Logic.{_⊎_, inl, inr}
 use mathlib.Core.List.{List, [], _∷_, _++_}
 use lib.ListN.{length, drop}
 use Rattle.standard.specs.Labels.{Params}
-use Rattle.standard.specs.Pieces.{Block, lostBlock, held, Role, whole, first, middle, last, Piece, blank, broken, piece, isFill, look}
-use Rattle.standard.specs.Records.{Mode, State, Met, took, refused, refuse21, Move as MoveOf, meet, atEnd, atLost, afterMove}
+use Rattle.standard.specs.Pieces.{Block, lostBlock, held, Role, Piece, blank, broken, piece, isFill, look}
+use Rattle.standard.specs.Records.{Mode, State, took, refused, refuse21, Move as MoveOf, atEnd, atLost, afterMove}
 use Rattle.promises.specs.StepLaw.{reading, behind, onPiece, onBlocks, reading-law}
 use Rattle.pieces.specs.Looks.{roleFor}
 use Rattle.walks.specs.Stands.{lengthOf, stateWith, limitOf, meetBy, moveWith}

@@ -2,7 +2,7 @@
 -- Assumes nothing.
 use Prim.Native.Nat.{ℕ, suc, _+_, _-_, _*_, _<_, _≤_}
 use mathlib.Core.Path.{_≡_, refl, sym, ap, subst, _∙_}
-use mathlib.Core.Bool.{Bool, true, false, cond}
+use mathlib.Core.Bool.{Bool, true, false}
 use mathlib.Core.Logic.{_⊎_}
 use mathlib.Core.List.{List, [], _∷_, _++_, append-nil}
 use lib.ListN.{length, take, drop, length-take, length-drop}
@@ -10,9 +10,8 @@ use lib.Seq.{take-take}
 use lib.Dec.{eqb}
 use native.Mathlib.Omega.{arith}
 use native.Mathlib.Nat.{mul-le-mul-right}
-use Rattle.standard.specs.Labels.{Params}
-use Rattle.standard.specs.Pieces.{Block, lostBlock, held, Piece, blank, broken, piece, isFill, look, lookIn, ahead}
-use Rattle.standard.specs.Records.{State, Met, took, refused, refuse20, refuse21, atLost, answer}
+use Rattle.standard.specs.Pieces.{Block, lostBlock, held, Piece, piece, isFill, look, lookIn, ahead}
+use Rattle.standard.specs.Records.{State, Met, took, refuse21, atLost, answer}
 use Rattle.standard.specs.Files.{goodRecords, recordsToBlock, contentSize, anyFailed, bytesOf, blockOf, blocksFrom, fileIn}
 use Rattle.standard.specs.declared.Geometry.{Geometry}
 use Rattle.standard.specs.declared.Place.{Place}
@@ -27,19 +26,17 @@ use Rattle.opening.proofs.OpenedLaws.{Facts, facts, size-is}
 use Rattle.blocks.specs.Streams.{stream}
 use Rattle.blocks.proofs.StreamLaws.{standing-legal, stream-in, stream-long}
 use Rattle.blocks.proofs.BlockLaws.{block-at, rest-is, drop-take}
-use Rattle.pieces.specs.Looks.{roleFor, seenOf, headOf}
-use Rattle.pieces.specs.declared.Seen.{Seen}
-use Rattle.pieces.specs.declared.Seen.the-variants.{Blank, Broken, Part}
+use Rattle.pieces.specs.Looks.{roleFor, headOf}
+use Rattle.pieces.specs.declared.Seen.the-variants.{Blank, Broken}
 use Rattle.pieces.proofs.LookLaws.{seen-blank, seen-broken, seen-part}
-use Rattle.walks.specs.Stands.{lengthOf, stateWith, limitOf, limitIn, meetBy, metWith, lengthIn, lostBy}
-use Rattle.walks.specs.Walks.{modeOf, metFrom, Walking, Entered, restAt, seenAt, bodyAhead, NotLost, PartAt, limitBy, Reached, grown, toGo, ReachedBy, Turned}
+use Rattle.walks.specs.Stands.{lengthOf, stateWith, limitOf, meetBy, metWith, lostBy}
+use Rattle.walks.specs.Walks.{modeOf, metFrom, Walking, Entered, restAt, seenAt, bodyAhead, NotLost, PartAt, limitBy, Reached, grown, toGo, Turned}
 use Rattle.walks.specs.declared.Stand.{Stand}
 use Rattle.walks.specs.declared.Move.{Move}
 use Rattle.walks.specs.declared.Move.the-variants.{Deliver, Carry, Breach}
 use Rattle.walks.specs.declared.Measured.{Measured}
-use Rattle.walks.specs.declared.Measured.the-variants.{Took, Lost, Ended, Failed}
+use Rattle.walks.specs.declared.Measured.the-variants.{Took, Failed}
 use Rattle.walks.specs.declared.Walk.{Walk}
-use Rattle.walks.specs.declared.Turn.{Turn}
 use Rattle.walks.specs.declared.Turn.the-variants.{Done, On}
 use Rattle.walks.proofs.StandLaws.{deliver-says, carry-length, carry-state}
 use Rattle.walks.proofs.TurnLaws.{turn-lost, turn-blank, turn-broken, turn-takes, turn-breach, turn-on, turn-next, turn-stops}

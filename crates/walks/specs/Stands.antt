@@ -6,7 +6,6 @@ use mathlib.Core.List.{List}
 use lib.ListN.{length}
 use lib.Dec.{ltb, eqb}
 use Rattle.standard.specs.Labels.{Format, fixed, variable, spanned, Params}
-use Rattle.standard.specs.Pieces.{Role, whole, first, middle, last}
 use Rattle.standard.specs.Records.{State, fresh, marked, within, Move as MoveOf, deliver, carry, breach, overIn, Met, took, gapped, ended, refused, refuse20, refuse22}
 use Rattle.walks.specs.declared.Stand.{Stand}
 use Rattle.walks.specs.declared.Stand.the-variants.{Fresh, Marked, Within}

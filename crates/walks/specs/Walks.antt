@@ -3,10 +3,10 @@
 use Prim.Native.Nat.{ℕ, _+_, _-_, _*_, _<_, _≤_}
 use mathlib.Core.Path.{_≡_}
 use mathlib.Core.Bool.{Bool, true, false}
-use mathlib.Core.List.{List, [], _++_}
+use mathlib.Core.List.{List, _++_}
 use lib.ListN.{length, take}
-use Rattle.standard.specs.Pieces.{Piece, lookIn, ahead}
-use Rattle.standard.specs.Records.{Mode, plain, salvage, Met, took, gapped, ended, refused, answer}
+use Rattle.standard.specs.Pieces.{lookIn, ahead}
+use Rattle.standard.specs.Records.{Mode, plain, salvage, Met, answer}
 use Rattle.standard.specs.Files.{anyFailed}
 use Rattle.labels.specs.Forms.{formatFor}
 use Rattle.extents.specs.Cursors.{standing}
@@ -16,7 +16,7 @@ use Rattle.blocks.specs.Streams.{stream}
 use Rattle.pieces.specs.Looks.{seenOf, headOf}
 use Rattle.pieces.specs.declared.Seen.{Seen}
 use Rattle.pieces.specs.declared.Seen.the-variants.{Part}
-use Rattle.walks.specs.Stands.{lengthOf, stateWith, limitIn, meetBy, metWith, measured, lengthIn}
+use Rattle.walks.specs.Stands.{lengthOf, stateWith, limitIn, metWith, lengthIn}
 use Rattle.walks.specs.declared.Measured.{Measured}
 use Rattle.walks.specs.declared.Measured.the-variants.{Took, Lost, Ended, Failed}
 use Rattle.walks.specs.declared.Walk.{Walk}

@@ -1,6 +1,6 @@
 -- The volume, then the slot, then the place.
 -- Assumes nothing.
-use mathlib.Core.Path.{_≡_, refl, sym, ap, _∙_}
+use mathlib.Core.Path.{sym, ap, _∙_}
 use denote.Ref.{now}
 use Rattle.standard.specs.declared.Answer.the-variants.{Unanswered}
 use Rattle.volume.specs.Stages.{refusalOf}

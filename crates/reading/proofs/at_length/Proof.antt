@@ -1,7 +1,6 @@
 -- A record over several blocks.
 -- Assumes nothing.
-use mathlib.Core.Path.{_≡_, refl, sym, ap, _∙_}
-use native.Mathlib.Omega.{arith}
+use mathlib.Core.Path.{sym, ap, _∙_}
 use denote.Ref.{now}
 use mathlib.Core.List.{[]}
 use lib.ListN.{length}

@@ -1,7 +1,6 @@
 -- The next block, whose first record lies m good records further on.
 -- Assumes nothing.
-use mathlib.Core.Path.{_≡_, refl, sym, ap, _∙_}
-use native.Mathlib.Omega.{arith}
+use mathlib.Core.Path.{refl}
 use denote.Ref.{now}
 use Rattle.walks.specs.declared.Walk.{Walk}
 use Rattle.walks.proofs.StandLaws.{entered-next}

@@ -1,6 +1,6 @@
 -- A segment, or a record of F or V.
 -- Assumes nothing.
-use mathlib.Core.Path.{_≡_, refl, sym, ap, _∙_}
+use mathlib.Core.Path.{sym, _∙_}
 use native.Mathlib.Omega.{arith}
 use denote.Ref.{now}
 use Rattle.opening.proofs.OpenedLaws.{facts}

@@ -1,6 +1,6 @@
 -- The rest of the block lies in the bytes ahead of its first record.
 -- Assumes nothing.
-use mathlib.Core.Path.{_≡_, refl, sym, ap, _∙_}
+use mathlib.Core.Path.{ap, _∙_}
 use native.Mathlib.Omega.{arith}
 use denote.Ref.{now}
 use Rattle.standard.specs.Pieces.{isFill}

@@ -1,7 +1,6 @@
 -- What stands at a walk's place, and what that does to it.
 -- Assumes nothing.
-use mathlib.Core.Path.{_≡_, refl, sym, ap, _∙_}
-use native.Mathlib.Omega.{arith}
+use mathlib.Core.Path.{sym, _∙_}
 use denote.Ref.{now}
 use Rattle.walks.proofs.WalkLaws.{turned-lost, turned-broken, turned-blank}
 use borrow.Author.Needs.{needs}
