@@ -1,7 +1,7 @@
 -- The address of a rank, and the records from the n-th on by arithmetic.
 -- Assumes nothing.
 use Prim.Native.Nat.{ℕ, suc, zero, _+_, _-_, _*_, _/_, _%_, _<_, _≤_}
-use mathlib.Core.Path.{_≡_, refl, sym, ap, subst, _∙_}
+use mathlib.Core.Path.{_≡_, refl, sym, ap, _∙_}
 use mathlib.Core.Bool.{true, false}
 use mathlib.Core.List.{List, [], _∷_}
 use lib.ListN.{length, drop, drop-of-length-le}
@@ -14,7 +14,6 @@ use Rattle.standard.specs.declared.Address.{Address}
 use Rattle.promises.specs.AddressLaws.{parts, address-eq, step-rank}
 use Rattle.promises.specs.Basics.{by-test, and-l, and-r}
 use Rattle.extents.specs.Cursors.{legalOn, goodFrom, standing, addressOf}
-use Rattle.extents.specs.declared.Cursor.{Cursor}
 
 -- x * d + y with y below d: x and y again
 quotient : (x y d : ℕ) → y < d → (x * d + y) / d ≡ x
@@ -53,7 +52,7 @@ first-legal : (g : Geometry) (left : ℕ) (a : Address) → legalOn g (suc left)
 unfolding legalOn
 first-legal g left a h = (and-l (legal g a) _ h, and-r (legal g a) _ h)
 
-from-length : (g : Geometry) (left : ℕ) (a : Address) → length (addressesFrom g left a) ≡ left
+pub from-length : (g : Geometry) (left : ℕ) (a : Address) → length (addressesFrom g left a) ≡ left
 unfolding addressesFrom
 from-length g zero a = refl
 from-length g (suc left) a = ap suc (from-length g left (stepped g a))

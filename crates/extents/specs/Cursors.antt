@@ -1,6 +1,6 @@
 -- A cursor in an extent: an address of it and the number of its addresses from there on, this one included.
 -- Assumes nothing.
-use Prim.Native.Nat.{ℕ, zero, suc, _+_, _*_, _/_, _%_}
+use Prim.Native.Nat.{ℕ, zero, suc, _+_, _/_, _%_}
 use mathlib.Core.Bool.{Bool, true, _&&_}
 use mathlib.Core.List.{List, [], _∷_}
 use Rattle.standard.specs.Addresses.{legal, stepped}

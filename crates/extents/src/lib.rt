@@ -11,7 +11,7 @@ ghost use mathlib.Core.Path.{_≡_};
 ghost use mathlib.Core.Bool.{true, false, cond};
 ghost use Prim.Native.Nat.{_+_, _<_, _≤_};
 ghost use lib.ListN.{length, drop};
-ghost use Rattle.standard.specs.Addresses.{legal, rank, addressCount};
+ghost use Rattle.standard.specs.Addresses.{legal};
 ghost use Rattle.standard.specs.Files.{addressesFrom, isDefective, isWrong};
 ghost use Rattle.extents.specs.Cursors.{legalAt, goodFrom, standing, addressOf};
 ghost use Rattle.extents.specs.Surveys.{surveyed};

@@ -17,7 +17,7 @@ use Rattle.standard.specs.Labels.{startOf, endOf}
 use Rattle.standard.specs.Slots.{isLabel}
 use Rattle.standard.specs.Judgement.{overlap, shares, clashesBelow}
 use Rattle.standard.specs.declared.Geometry.{Geometry}
-use Rattle.promises.specs.Basics.{either, cond-elim}
+use Rattle.promises.specs.Basics.{either}
 use Rattle.promises.specs.AddressLaws.{rank-lt}
 use Rattle.promises.specs.AcceptedLaws.{fault-none}
 use Rattle.promises.specs.Judging.{label-right}

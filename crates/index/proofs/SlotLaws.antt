@@ -2,12 +2,12 @@
 -- Assumes nothing.
 use Prim.Native.Nat.{ℕ, _+_, _<_, _≤_}
 use mathlib.Core.Path.{_≡_, refl, sym, ap, _∙_}
-use mathlib.Core.Bool.{Bool, true, false, not, _&&_, _||_}
+use mathlib.Core.Bool.{Bool, true, false, not, _||_}
 use mathlib.Core.List.{List}
 use lib.Dec.{eqb}
 use native.Mathlib.Omega.{arith}
 use borrow.Author.Tests.{not-false}
-use Rattle.standard.specs.Layout.{indexSectors, kAt, kindAt, validMark, slotCount, slotOrdinal}
+use Rattle.standard.specs.Layout.{indexSectors, kindAt, validMark, slotCount, slotOrdinal}
 use Rattle.standard.specs.Slots.{isLabel, isDeleted, slotRefusal}
 use Rattle.standard.specs.declared.Geometry.{Geometry}
 use Rattle.standard.specs.declared.Checked.the-variants.{Passed}
@@ -15,7 +15,7 @@ use Rattle.promises.specs.Basics.{by-test}
 use Rattle.promises.specs.SectorLaws.{valid-correct}
 use Rattle.promises.specs.Judging.{order-each, not-given, slots-each}
 use Rattle.layout.proofs.Laws.{k-first}
-use Rattle.index.specs.Whole.{Whole, Slotted}
+use Rattle.index.specs.Whole.{Slotted}
 
 or-left : (a b : Bool) → b ≡ false → (a || b) ≡ true → a ≡ true
 or-left true b e h = refl

@@ -24,7 +24,7 @@ ghost use Rattle.standard.specs.Slots.{isLabel, slotRefusal};
 ghost use Rattle.standard.specs.Judgement.{shares, namesake, clashesBelow, refusal8to10, refusal11, refusal12};
 ghost use Rattle.layout.specs.Room.{Room};
 ghost use Rattle.index.specs.Whole.{Whole, Slotted};
-ghost use Rattle.index.specs.Extents.{startIn, endIn, extentIn, Known, meets};
+ghost use Rattle.index.specs.Extents.{extentIn, Known, meets};
 ghost use Rattle.index.specs.Names.{eightFrom, keyOf, keyIn, Keyed};
 
 // A refusal with one place.

@@ -1,12 +1,12 @@
 -- Where things lie: each way out of a definition of the layout, and the room that an accepted volume has.
 -- Assumes nothing.
 use Prim.Native.Nat.{ℕ, _+_, _-_, _*_, _<_, _≤_}
-use mathlib.Core.Path.{_≡_, refl, sym, ap, _∙_}
+use mathlib.Core.Path.{_≡_, refl, ap, _∙_}
 use mathlib.Core.List.{List}
-use lib.ListN.{length, getD, take, drop}
+use lib.ListN.{getD, take, drop}
 use native.Mathlib.Omega.{arith}
 use borrow.Author.Tests.{lt-ltb, le-ltb, le-leb, lt-leb, eq-eqb, ne-eqb}
-use Rattle.standard.specs.Layout.{ordinalAt, indexSectors, kAt, kindOffset, bodyOffset, kindAt, firstByte, slotCount, slotOrdinal, labelOffset, labelAt, indexBody}
+use Rattle.standard.specs.Layout.{ordinalAt, indexSectors, kAt, kindOffset, bodyOffset, kindAt, firstByte, slotCount, slotOrdinal, labelOffset, labelAt}
 use Rattle.standard.specs.Defects.{skipOne, physical}
 use Rattle.standard.specs.Addresses.{ordinal}
 use Rattle.standard.specs.declared.Geometry.{Geometry}

@@ -12,7 +12,6 @@ use Rattle.standard.specs.Layout.{indexSectors, sectorCount, imageLength, kAt, 
 use Rattle.standard.specs.Refusals.{refuse}
 use Rattle.standard.specs.Judgement.{legalKind, kindsFrom, refusal6}
 use Rattle.standard.specs.declared.Geometry.{Geometry}
-use Rattle.standard.specs.declared.Checked.{Checked}
 use Rattle.standard.specs.declared.Checked.the-variants.{Passed, Stopped}
 use Rattle.promises.specs.Basics.{either, lt-or-le, by-test}
 use Rattle.layout.specs.Runs.{kindOf, legalRun}

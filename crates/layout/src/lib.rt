@@ -13,7 +13,7 @@ use standard::wide;
 ghost use mathlib.Core.Path.{_≡_};
 ghost use Prim.Native.Nat.{_+_, _-_, _*_, _<_, _≤_};
 ghost use lib.ListN.{length};
-ghost use Rattle.standard.specs.Layout.{indexSectors, sectorCount, kAt, kindOffset, bodyOffset, imageLength, kindAt, firstByte, validMark, incorrectMark, checkFailed, indexKind, indexBody, slotCount, slotOrdinal, labelOffset, labelAt};
+ghost use Rattle.standard.specs.Layout.{indexSectors, sectorCount, kAt, kindOffset, imageLength, kindAt, firstByte, validMark, incorrectMark, checkFailed, indexKind, indexBody, slotCount, slotOrdinal, labelOffset, labelAt};
 ghost use Rattle.standard.specs.Defects.{skipOne, physical};
 ghost use Rattle.standard.specs.Addresses.{ordinal};
 ghost use Rattle.standard.specs.Refusals.{refuse};

@@ -1,15 +1,16 @@
--- The exits of opening.
+-- The exits of opening, and of what is asked of a slot first.
 -- Assumes nothing.
 use Prim.Native.Nat.{ℕ}
 use mathlib.Core.Path.{_≡_, refl, sym, ap, _∙_}
-use mathlib.Core.Bool.{Bool, true, false}
-use mathlib.Core.List.{List, [], _∷_}
+use mathlib.Core.Bool.{Bool, true, false, not}
+use mathlib.Core.List.{List, [], _∷_, _++_}
+use borrow.Author.Tests.{not-false}
 use Rattle.standard.specs.Characters.{at, isSpace}
-use Rattle.standard.specs.Refusals.{refuse, given-when, inOrder}
+use Rattle.standard.specs.Refusals.{refuse, given-when, inOrder, orElse}
 use Rattle.standard.specs.Layout.{labelAt}
 use Rattle.standard.specs.Labels.{knownLevel, formatOf, isBlocked}
 use Rattle.standard.specs.Slots.{hasLabel}
-use Rattle.standard.specs.Files.{addressesFrom, extent, blockCount, refusal17, refusal18, countOr, openRefusal}
+use Rattle.standard.specs.Files.{addressesFrom, extent, blockCount, refusal13, refusal14, refusal15, refusal16, refusal17, refusal18, countOr, openRefusal}
 use Rattle.standard.specs.Judgement.{judged}
 use Rattle.standard.specs.declared.Geometry.{Geometry}
 use Rattle.standard.specs.declared.Refusal.{Refusal}
@@ -19,6 +20,7 @@ use Rattle.standard.specs.declared.Judged.the-variants.{Volume}
 use Rattle.standard.specs.declared.Counted.{Counted}
 use Rattle.standard.specs.declared.Counted.the-variants.{Uncounted, Count}
 use Rattle.promises.specs.Basics.{never}
+use Rattle.promises.specs.Judging.{order-each, not-given}
 use Rattle.promises.specs.AcceptedLaws.{label-in-range}
 use Rattle.labels.specs.Forms.{formIn}
 use Rattle.labels.specs.declared.Form.{Form}
@@ -27,35 +29,84 @@ use Rattle.files.specs.Numbers.{numbersOf, tallied}
 use Rattle.files.specs.declared.Numbers.{Numbers}
 use Rattle.files.proofs.Blocks.{tally-is}
 use Rattle.files.proofs.Accepted.{behind}
-use Rattle.opening.specs.Opened.{isWhole, fileNumbers, openOr, openingIn}
+use Rattle.opening.specs.Opened.{isWhole, usableIn, fileNumbers, openOr, openingIn}
 use Rattle.opening.specs.declared.FileNumbers.{FileNumbers}
 use Rattle.opening.specs.declared.Opening.the-variants.{Shut, Open}
 
+-- the first refusal of a list that goes on in another
+pub order-append : (xs ys : List Checked) → inOrder (xs ++ ys) ≡ orElse (inOrder xs) (inOrder ys)
+unfolding inOrder orElse
+order-append [] ys = refl
+order-append (Passed ∷ xs) ys = order-append xs ys
+order-append (Stopped r ∷ xs) ys = refl
+
+-- a test of what a call answered, said of what the call is about
+pub told : (x y t : Bool) → x ≡ y → not x ≡ t → not y ≡ t
+told x y t e q = ap not (sym e) ∙ q
+
+pub level-told : (s h : List ℕ) (x t : Bool) → s ≡ h → x ≡ knownLevel s → not x ≡ t → not (knownLevel h) ≡ t
+level-told s h x t e f q = told x (knownLevel h) t (f ∙ ap knownLevel e) q
+
+pub space-told : (s h : List ℕ) (i x : ℕ) (t : Bool) → s ≡ h → x ≡ at s i → not (isSpace x) ≡ t → not (isSpace (at h i)) ≡ t
+space-told s h i x t e f q = told (isSpace x) (isSpace (at h i)) t (ap isSpace (f ∙ ap (λ (u : List ℕ). at u i) e)) q
+
 module _ (g : Geometry) (image : List ℕ) (slot : ℕ) where
-  pub open-13 : hasLabel g image slot ≡ false → Shut (refuse 13 0) ≡ openingIn g image slot
-  unfolding openingIn openRefusal given-when inOrder
-  open-13 a = simp a
+  abbrev h : List ℕ
+  h = labelAt g image slot
 
-  pub open-14 : hasLabel g image slot ≡ true → knownLevel (labelAt g image slot) ≡ false → Shut (refuse 14 slot) ≡ openingIn g image slot
-  unfolding openingIn openRefusal given-when inOrder
-  open-14 a b = simp (a, b)
+  -- 13 to 16, each behind the ones before it, by the tests as they are made
+  pub usable-13 : not (hasLabel g image slot) ≡ true → Stopped (refuse 13 0) ≡ usableIn g image slot
+  unfolding usableIn given-when inOrder
+  usable-13 a = simp a
 
-  pub open-15 : hasLabel g image slot ≡ true → knownLevel (labelAt g image slot) ≡ true → isSpace (at (labelAt g image slot) 42) ≡ false
-      → Shut (refuse 15 slot) ≡ openingIn g image slot
-  unfolding openingIn openRefusal given-when inOrder
-  open-15 a b d = simp (a, b, d)
+  module _ (a : not (hasLabel g image slot) ≡ false) where
+    pub usable-14 : not (knownLevel h) ≡ true → Stopped (refuse 14 slot) ≡ usableIn g image slot
+    unfolding usableIn given-when inOrder
+    usable-14 b = simp (a, b)
 
-  pub open-16 : hasLabel g image slot ≡ true → knownLevel (labelAt g image slot) ≡ true → isSpace (at (labelAt g image slot) 42) ≡ true
-      → isSpace (at (labelAt g image slot) 45) ≡ false → Shut (refuse 16 slot) ≡ openingIn g image slot
-  unfolding openingIn openRefusal given-when inOrder
-  open-16 a b d e = simp (a, b, d, e)
+    module _ (b : not (knownLevel h) ≡ false) where
+      pub usable-15 : not (isSpace (at h 42)) ≡ true → Stopped (refuse 15 slot) ≡ usableIn g image slot
+      unfolding usableIn given-when inOrder
+      usable-15 d = simp (a, b, d)
 
-  pub open-on : hasLabel g image slot ≡ true → knownLevel (labelAt g image slot) ≡ true → isSpace (at (labelAt g image slot) 42) ≡ true
-      → isSpace (at (labelAt g image slot) 45) ≡ true
-      → openOr (inOrder (refusal17 g image (labelAt g image slot) ∷ refusal18 g image (labelAt g image slot) slot ∷ [])) (fileNumbers g image slot)
-      ≡ openingIn g image slot
-  unfolding openingIn openRefusal given-when inOrder
-  open-on a b d e = simp (a, b, d, e)
+      module _ (d : not (isSpace (at h 42)) ≡ false) where
+        pub usable-16 : not (isSpace (at h 45)) ≡ true → Stopped (refuse 16 slot) ≡ usableIn g image slot
+        unfolding usableIn given-when inOrder
+        usable-16 e = simp (a, b, d, e)
+
+        pub usable-all : not (isSpace (at h 45)) ≡ false → Passed ≡ usableIn g image slot
+        unfolding usableIn given-when inOrder
+        usable-all e = simp (a, b, d, e)
+
+  -- what a slot that passed them has
+  pub usable-facts : usableIn g image slot ≡ Passed
+      → (hasLabel g image slot ≡ true) × (knownLevel h ≡ true) × (isSpace (at h 42) ≡ true) × (isSpace (at h 45) ≡ true)
+  unfolding usableIn
+  usable-facts p =
+      let (r13, (r14, (r15, (r16, _)))) = order-each _ p in (
+        not-false _ (not-given (not (hasLabel g image slot)) _ r13),
+        not-false _ (not-given (not (knownLevel h)) _ r14),
+        not-false _ (not-given (not (isSpace (at h 42))) _ r15),
+        not-false _ (not-given (not (isSpace (at h 45))) _ r16),
+      )
+
+  -- opening behind them: shut by one, or 17 and 18 decide
+  abbrev rest : Checked
+  rest = inOrder (refusal17 g image h ∷ refusal18 g image h slot ∷ [])
+
+  open-behind : openRefusal g image slot ≡ orElse (usableIn g image slot) rest
+  unfolding openRefusal usableIn
+  open-behind =
+      order-append (refusal13 g image slot ∷ refusal14 h slot ∷ refusal15 h slot ∷ refusal16 h slot ∷ [])
+      (refusal17 g image h ∷ refusal18 g image h slot ∷ [])
+
+  pub open-stopped : (r : Refusal) → usableIn g image slot ≡ Stopped r → Shut r ≡ openingIn g image slot
+  unfolding openingIn orElse
+  open-stopped r u = rw (open-behind, u)
+
+  pub open-usable : usableIn g image slot ≡ Passed → openOr rest (fileNumbers g image slot) ≡ openingIn g image slot
+  unfolding openingIn orElse
+  open-usable u = rw (open-behind, u)
 
 -- what a count says of the refusals before it
 abbrev refusalIn : Counted → Refusal → Refusal
@@ -81,7 +132,7 @@ module _ (image : List ℕ) (g : Geometry) (slot : ℕ) (j : judged image ≡ Vo
   theLabel = labelAt g image slot
 
   abbrev theLast : Checked
-  theLast = inOrder (refusal17 g image theLabel ∷ refusal18 g image theLabel slot ∷ [])
+  theLast = rest g image slot
 
   tallied-is : countOr theLast (blockCount g image theLabel) ≡ tallied g image n slot
   tallied-is =

@@ -95,7 +95,7 @@ records-few : (g : Geometry) (h : List ℕ) → blockLength h < 65536 → record
 unfolding recordsToBlock
 records-few g h b = cond-elim (λ n. n ≤ 9999999) (ltb (g .P) (blockLength h)) (λ _. omega (arith, div-le-self (blockLength h) (g .P))) (λ _. omega arith)
 
-whole-only : (k : Condition) → isWhole k ≡ true → k ≡ Whole
+pub whole-only : (k : Condition) → isWhole k ≡ true → k ≡ Whole
 whole-only (Wrong o) e = never (cc)
 whole-only Whole e = refl
 whole-only Holed e = never (cc)

@@ -3,12 +3,13 @@
 use Prim.Native.Nat.{ℕ, _+_, _-_, _*_}
 use mathlib.Core.Path.{_≡_}
 use mathlib.Core.Bool.{Bool, true, false, cond, _&&_}
-use mathlib.Core.List.{List}
+use mathlib.Core.List.{List, [], _∷_}
 use lib.ListN.{drop}
 use lib.Dec.{leb, ltb, eqb}
+use Rattle.standard.specs.Refusals.{inOrder}
 use Rattle.standard.specs.Layout.{labelAt}
 use Rattle.standard.specs.Labels.{blockLength, recordLength, unusedCount, startOf, formatOf, isBlocked}
-use Rattle.standard.specs.Files.{extentSize, extent, goodRecords, recordsToBlock, blockCount, openRefusal, fileIn}
+use Rattle.standard.specs.Files.{extentSize, extent, goodRecords, recordsToBlock, blockCount, refusal13, refusal14, refusal15, refusal16, openRefusal, fileIn}
 use Rattle.standard.specs.Records.{File, aligned}
 use Rattle.standard.specs.Judgement.{judged}
 use Rattle.standard.specs.declared.Geometry.{Geometry}
@@ -25,6 +26,12 @@ use Rattle.extents.specs.declared.Condition.the-variants.{Wrong, Whole, Holed}
 use Rattle.opening.specs.declared.FileNumbers.{FileNumbers}
 use Rattle.opening.specs.declared.Opening.{Opening}
 use Rattle.opening.specs.declared.Opening.the-variants.{Shut, Open}
+
+-- "Reading: 13-19", "Writing: 13-16, 24, 17, 25-27": what both ask of a slot first
+unfoldable pub usableIn : Geometry → List ℕ → ℕ → Checked
+usableIn g image slot =
+    let h = labelAt g image slot in
+    inOrder (refusal13 g image slot ∷ refusal14 h slot ∷ refusal15 h slot ∷ refusal16 h slot ∷ [])
 
 -- whether a walk found every record good
 abbrev pub isWhole : Condition → Bool

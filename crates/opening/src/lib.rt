@@ -12,6 +12,7 @@ use labels::form_of;
 use labels::is_blocked;
 use labels::known_level;
 use layout::label_at;
+use standard::Checked;
 use standard::Counted;
 use standard::Geometry;
 use standard::Judged;
@@ -32,7 +33,7 @@ ghost use Rattle.standard.specs.Files.{refusal17, refusal18};
 ghost use Rattle.standard.specs.Records.{aligned};
 ghost use Rattle.standard.specs.Judgement.{judged};
 ghost use Rattle.labels.specs.Forms.{formatFor};
-ghost use Rattle.opening.specs.Opened.{isWhole, fileNumbers, openOr, openingIn, Opened, sizeAt, insideBy, Seated};
+ghost use Rattle.opening.specs.Opened.{isWhole, usableIn, fileNumbers, openOr, openingIn, Opened, sizeAt, insideBy, Seated};
 
 // The numbers of an opened file: its volume's, its slot, a cursor on its extent's start, whether every record of the extent is good; "40 space or F (fixed),
 // V, S"; "63 space, or B for blocked"; m, "blocks take m good records in turn"; B, R and U by the document's letters; and the number of its blocks.
@@ -57,10 +58,10 @@ pub enum Opening {
 }
 
 // A refusal with one place.
-fn shut(number: u8, place: u64) -> Opening
-    ensures { λ r. ⌜ r ≡ Opening.Shut (refuse number place) ⌝ }
+fn stopped(number: u8, place: u64) -> Checked
+    ensures { λ r. ⌜ r ≡ Checked.Stopped (refuse number place) ⌝ }
 {
-    Opening::Shut(Refusal {
+    Checked::Stopped(Refusal {
         number: number,
         first: place,
         second: 0,
@@ -68,8 +69,29 @@ fn shut(number: u8, place: u64) -> Opening
     })
 }
 
+// Refusals 13 to 16: what both reading and writing ask of a slot first.
+pub fn usable(g: Geometry, image: &[u8], slot: u64) -> Checked
+    requires { ⌜ judged (now image) ≡ Judged.Volume g ⌝ }
+    ensures { λ r. ⌜ r ≡ usableIn g (now (image .entry)) slot ⌝ }
+{
+    if !has_label(g, image, slot) {
+        return stopped(13, 0);
+    }
+    let h = label_at(g, image, slot);
+    if !known_level(h) {
+        return stopped(14, slot);
+    }
+    if !(wide(h[41]) == 32) {
+        return stopped(15, slot);
+    }
+    if !(wide(h[44]) == 32) {
+        return stopped(16, slot);
+    }
+    Checked::Passed
+}
+
 // Whether a walk found every record good.
-fn is_whole(found: Condition) -> bool
+pub fn is_whole(found: Condition) -> bool
     ensures { λ r. ⌜ r ≡ isWhole found ⌝ }
 {
     match found {
@@ -115,19 +137,11 @@ pub fn open_in(g: Geometry, image: &[u8], slot: u64) -> Opening
     requires { ⌜ judged (now image) ≡ Judged.Volume g ⌝ }
     ensures { λ r. ⌜ r ≡ openingIn g (now (image .entry)) slot ⌝ }
 {
-    if !has_label(g, image, slot) {
-        return shut(13, 0);
+    let u = usable(g, image, slot);
+    if let Checked::Stopped(r) = u {
+        return Opening::Shut(r);
     }
     let h = label_at(g, image, slot);
-    if !known_level(h) {
-        return shut(14, slot);
-    }
-    if !(wide(h[41]) == 32) {
-        return shut(15, slot);
-    }
-    if !(wide(h[44]) == 32) {
-        return shut(16, slot);
-    }
     concluded(g, image, slot, h)
 }
 

@@ -1,6 +1,6 @@
 -- By arithmetic, or by the walk.
 -- Assumes nothing.
-use mathlib.Core.Path.{_≡_, sym, ap, _∙_}
+use mathlib.Core.Path.{sym, ap, _∙_}
 use lib.ListN.{drop}
 use native.Mathlib.Omega.{arith}
 use denote.Ref.{now}

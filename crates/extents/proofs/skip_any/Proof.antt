@@ -1,10 +1,8 @@
 -- None is left; or the address is reckoned from the rank.
 -- Assumes nothing.
-use Prim.Native.Nat.{ℕ, _+_, _-_, _<_, _≤_}
-use mathlib.Core.Path.{_≡_, refl, sym, ap, _∙_}
-use mathlib.Core.Bool.{true}
+use Prim.Native.Nat.{ℕ, _+_}
+use mathlib.Core.Path.{ap, _∙_}
 use native.Mathlib.Omega.{arith}
-use Rattle.standard.specs.Addresses.{rank}
 use Rattle.extents.specs.Cursors.{addressOf}
 use Rattle.extents.proofs.CursorLaws.{legal-small, legal-head, legal-none}
 use Rattle.extents.proofs.RankLaws.{from-nth, none-left, no-addresses, sides-some}

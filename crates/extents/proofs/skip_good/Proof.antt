@@ -3,10 +3,10 @@ use lib.Seq.{drop-drop}
 use denote.Ref.{now}
 use mathlib.Core.Path.{_≡_, _∙_, sym, ap}
 use mathlib.Core.Bool.{true}
-use Prim.Native.Nat.{ℕ, _≤_, _-_, _+_, _<_}
+use Prim.Native.Nat.{ℕ, _≤_, _-_}
 use native.Mathlib.Omega.{arith}
 use borrow.Author.Needs.{needs}
-use lib.ListN.{length, drop}
+use lib.ListN.{drop}
 use Rattle.extents.specs.Cursors.{legalAt, standing}
 use Rattle.extents.proofs.CursorLaws.{stand-none, drop-past}
 use Rattle.extents.proofs.skip_good.Statement.{statement}

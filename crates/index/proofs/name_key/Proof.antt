@@ -1,6 +1,5 @@
 -- `name_key` meets its contract.
 -- Assumes nothing.
-use denote.Ref.{now}
 use Rattle.index.proofs.NameLaws.{key-is}
 use borrow.Author.Needs.{needs}
 use Rattle.index.proofs.name_key.Statement.{statement}

@@ -1,12 +1,11 @@
 -- `named` meets its contract: the row holds the beginnings of the names passed.
 -- Assumes nothing.
-use Rattle.standard.specs.declared.Checked.the-variants.{Stopped}
 use Rattle.index.proofs.ClashLaws.{from-start, from-stop, from-more, from-end}
 use Rattle.index.proofs.NameLaws.{keyed-more}
 use borrow.Author.Needs.{needs}
 use native.Mathlib.Omega.{arith}
-use Prim.Native.Nat.{ℕ, _+_, _-_, _≤_, _<_}
-use mathlib.Core.Path.{_≡_, sym, ap, _∙_}
+use Prim.Native.Nat.{_+_, _-_, _≤_}
+use mathlib.Core.Path.{_≡_, sym, _∙_}
 use denote.Ref.{now}
 use lib.ListN.{length}
 use Rattle.standard.specs.Layout.{slotCount}

@@ -2,21 +2,16 @@
 -- Assumes nothing.
 use Prim.Native.Nat.{_+_}
 use native.Mathlib.Omega.{arith}
-use native.Mathlib.Numerals.{add-one}
 use borrow.Author.Tests.{not-true, not-false}
 use mathlib.Core.Path.{ap}
-use Prim.Native.Nat.{ℕ}
 use borrow.Author.Needs.{needs}
 use Prim.Native.Nat.{_-_, _≤_}
 use mathlib.Core.Path.{_≡_, sym, _∙_}
-use mathlib.Core.Bool.{true}
 use denote.Ref.{now}
-use Rattle.standard.specs.Layout.{slotCount}
 use Rattle.standard.specs.Judgement.{namesake, clashesBelow}
-use Rattle.index.specs.Whole.{Slotted}
-use Rattle.index.specs.Names.{keyIn, Keyed}
+use Rattle.index.specs.Names.{keyIn}
 use Rattle.index.proofs.ClashLaws.{below-yes, below-more, below-end}
-use Rattle.index.proofs.NameLaws.{knownIn, unknown-below}
+use Rattle.index.proofs.NameLaws.{unknown-below}
 use Rattle.index.proofs.named_below.Statement.{statement}
 use Rattle.index.proofs.named_below.Tie as tie
 

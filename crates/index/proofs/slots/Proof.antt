@@ -2,8 +2,8 @@
 -- Assumes nothing.
 use Rattle.index.proofs.RefusalLaws.{slots-start, slots-stop, slots-end}
 use native.Mathlib.Omega.{arith}
-use Prim.Native.Nat.{ℕ, _+_, _-_, _≤_, _<_}
-use mathlib.Core.Path.{_≡_, sym, ap, _∙_}
+use Prim.Native.Nat.{_+_, _-_, _≤_}
+use mathlib.Core.Path.{_≡_, sym, _∙_}
 use denote.Ref.{now}
 use Rattle.standard.specs.Layout.{slotCount}
 use Rattle.standard.specs.Refusals.{orElse}
