@@ -1,0 +1,5 @@
+pub mod RunLaws
+pub mod StandLaws
+pub mod PenLaws
+pub mod BlockLaws
+pub mod WordLaws
