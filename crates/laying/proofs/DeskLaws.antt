@@ -1,0 +1,331 @@
+-- From what the pen laid to what the record is: the laws that the writer's functions cite.
+-- Assumes nothing.
+use Prim.Native.Nat.{ℕ, zero, suc, _+_, _-_, _<_, _≤_}
+use mathlib.Core.Path.{_≡_, refl, sym, ap, subst, _∙_}
+use mathlib.Core.Bool.{Bool, true, false, cond}
+use mathlib.Core.List.{List, [], _∷_, _++_, append-assoc, append-nil}
+use lib.ListN.{length, getD, take, drop, length-drop, length-append, drop-of-length-le}
+use lib.Seq.{length-take-le, drop-drop, drop-cons, take-take}
+use lib.Dec.{leb}
+use native.Mathlib.Omega.{arith}
+use native.Mathlib.Nat.{not-suc-le-zero}
+use native.Mathlib.Numerals.{add-one}
+use borrow.Author.Tests.{leb-true, le-leb, lt-leb}
+use Rattle.standard.specs.Characters.{padded}
+use Rattle.standard.specs.Labels.{Format, fixed, variable, spanned}
+use Rattle.standard.specs.Pieces.{Role}
+use Rattle.standard.specs.Packing.{Laid, fill, roleByte, placeIf, recordV, layOne, packIn, segment, segmentRole, spread, least, startIf}
+use Rattle.standard.specs.Writing.{total, parted, filledTo}
+use Rattle.standard.specs.declared.Geometry.{Geometry}
+use Rattle.labels.specs.Forms.{formatFor}
+use Rattle.labels.specs.declared.Form.{Form}
+use Rattle.promises.specs.NeededLaws.{leastFor, FitsIn, EachFits}
+use Rattle.promises.specs.StoreLaws.{total-drop}
+use Rattle.promises.specs.WritingPromises.{parted-lengths}
+use Rattle.standard.specs.declared.Address.{Address}
+use Rattle.extents.specs.Cursors.{standing}
+use Rattle.extents.specs.declared.Cursor.{Cursor}
+use Rattle.extents.proofs.CursorLaws.{stand-none}
+use Rattle.blocks.proofs.BlockLaws.{drop-take}
+use Rattle.filling.specs.Poured.{poured, laidBy, Lays, wordS, flat}
+use Rattle.filling.proofs.PenLaws.{lays-done, lays-then}
+use Rattle.filling.specs.declared.Pen.{Pen}
+use Rattle.laying.specs.Ahead.{flatLaid, layRecord, layFrom, joins, Shaped, Ready, HasRoom, Steps}
+use Rattle.laying.specs.declared.Shape.{Shape}
+use Rattle.laying.specs.declared.Desk.{Desk}
+use Rattle.laying.proofs.AheadLaws.{filled-none, packed-flat, fill-length, place-step, start-step, spread-here, spread-on, least-for}
+
+-- two lots of bytes, and what follows
+module _ (g : Geometry) (i i₁ i₂ : List ℕ) (p p₁ p₂ : Pen) (xs ys : List ℕ) (h : Lays g i p xs i₁ p₁) (k : Lays g i₁ p₁ ys i₂ p₂) where
+  both-laid : (all rest tail : List ℕ) → all ≡ xs ++ (ys ++ rest) → laidBy g i p (all ++ tail) ≡ laidBy g i₂ p₂ (rest ++ tail)
+  both-laid all rest tail e =
+      ap (λ (s : List ℕ). laidBy g i p (s ++ tail)) e
+      ∙ (ap (laidBy g i p) (append-assoc xs (ys ++ rest) tail ∙ ap (λ (s : List ℕ). xs ++ s) (append-assoc ys rest tail))
+      ∙ (h .0 (ys ++ (rest ++ tail)) ∙ k .0 (rest ++ tail)))
+
+one-laid : (g : Geometry) (i i₁ : List ℕ) (p p₁ : Pen) (xs : List ℕ) → Lays g i p xs i₁ p₁ → (all rest tail : List ℕ) → all ≡ xs ++ rest
+    → laidBy g i p (all ++ tail) ≡ laidBy g i₁ p₁ (rest ++ tail)
+one-laid g i i₁ p p₁ xs h all rest tail e =
+    ap (λ (s : List ℕ). laidBy g i p (s ++ tail)) e ∙ (ap (laidBy g i p) (append-assoc xs rest tail) ∙ h .0 (rest ++ tail))
+
+-- data with no fill behind it
+pub lays-plain : (g : Geometry) (i i′ : List ℕ) (p p′ : Pen) (xs : List ℕ) → Lays g i p (xs ++ fill 0) i′ p′ → Lays g i p xs i′ p′
+lays-plain g i i′ p p′ xs h = subst (λ (ys : List ℕ). Lays g i p ys i′ p′) (append-nil xs) h
+
+-- ---- THE CURRENT BLOCK, or the next
+pub room-here : (g : Geometry) (s : Shape) (i : List ℕ) (d : Desk) (need : ℕ) → Ready g i s d → need ≤ d .room → HasRoom g s i d need i d
+room-here g s i d need r h = rw (le-leb need (d .room) h) (((λ more. refl), r .0), refl, refl)
+
+pub room-next : (g : Geometry) (s : Shape) (i i₁ : List ℕ) (d d₁ : Desk) (need : ℕ) → d .room < need → Lays g i (d .p) (fill (d .rest)) i₁ (d₁ .p)
+    → d₁ .room ≡ s .B → d₁ .rest ≡ s .size → HasRoom g s i d need i₁ d₁
+room-next g s i i₁ d d₁ need h l er es = rw (lt-leb need (d .room) h) (l, er, es)
+
+-- ---- F AND V: a record that stands whole in its block
+cond-low : (t : Bool) (a b c : ℕ) → (t ≡ true → c ≤ a) → (t ≡ false → c ≤ b) → c ≤ cond t a b
+cond-low true a b c h k = h refl
+cond-low false a b c h k = k refl
+
+cond-most : (t : Bool) (a b c : ℕ) → a ≤ c → b ≤ c → cond t a b ≤ c
+cond-most true a b c h k = h
+cond-most false a b c h k = k
+
+cond-both : (t : Bool) (a b c d : ℕ) → a ≤ c → b ≤ d → cond t a b ≤ cond t c d
+cond-both true a b c d h k = h
+cond-both false a b c d h k = k
+
+pub fits-there : (n room B : ℕ) → n ≤ B → n ≤ cond (leb n room) room B
+fits-there n room B h = cond-low (leb n room) room B n (λ q. leb-true n room q) (λ _. h)
+
+abbrev pub deskOf : Pen → ℕ → ℕ → Desk
+deskOf p room rest = record { p = p; room = room; rest = rest }
+
+module _ (g : Geometry) (s : Shape) (i i₁ i₂ : List ℕ) (d d₁ : Desk) (p₂ : Pen) (e : List ℕ) (sh : Shaped s) (rd : Ready g i s d) where
+  abbrev WholeLaid : ℕ → Type 0
+  WholeLaid n =
+      n ≤ s .B → HasRoom g s i d n i₁ d₁ → Lays g i₁ (d₁ .p) e i₂ p₂
+      → Steps g s i d (λ more. placeIf (leb (length e) (d .room)) (s .B) (d .room) e (λ r. more (cond (s .joined) r 0))) i₂
+      (deskOf p₂ (cond (s .joined) (d₁ .room - n) 0) (d₁ .rest - n))
+
+  whole-there : WholeLaid (length e)
+  whole-there le h k =
+      let fitting = leb (length e) (d .room) in
+      let f = fits-there (length e) (d .room) (s .B) le in
+      let inside = cond-both fitting (d .room) (s .B) (d .rest) (s .size) (rd .1) (sh .0) in
+      let most = cond-most fitting (d .rest) (s .size) (s .size) (rd .2) (omega arith) in
+      let low = cond-most fitting (d .room) (s .B) (s .B) (rd .3) (omega arith) in
+      let after : cond (s .joined) (d₁ .room - length e) 0 ≤ d₁ .room - length e = cond-most (s .joined) _ _ _ (omega arith) (omega arith) in
+      let er = h .1 in
+      let es = h .2 in (
+        λ more tail.
+            both-laid g i i₁ i₂ (d .p) (d₁ .p) p₂ (cond fitting [] (fill (d .rest))) e (h .0) k
+            (flatLaid (s .size) (d .rest) (placeIf fitting (s .B) (d .room) e (λ r. more (cond (s .joined) r 0))))
+            (flatLaid (s .size) (d₁ .rest - length e) (more (cond (s .joined) (d₁ .room - length e) 0))) tail
+            (rw (er, es) (place-step fitting (s .size) (s .B) (d .room) (d .rest) e (λ r. more (cond (s .joined) r 0)) (rd .1))),
+        (k .1, omega arith, omega arith, omega arith),
+      )
+
+  pub whole-laid : (n room : ℕ) → length e ≡ n → room ≡ cond (s .joined) (d₁ .room - n) 0 → n ≤ s .B → HasRoom g s i d n i₁ d₁ → Lays g i₁ (d₁ .p) e i₂ p₂
+      → Steps g s i d (λ more. placeIf (leb (length e) (d .room)) (s .B) (d .room) e (λ r. more (cond (s .joined) r 0))) i₂ (deskOf p₂ room (d₁ .rest - n))
+  whole-laid n room le er lb h k =
+      subst (λ (r : ℕ). Steps g s i d (λ more. placeIf (leb (length e) (d .room)) (s .B) (d .room) e (λ r. more (cond (s .joined) r 0))) i₂ (deskOf p₂ r (d₁ .rest - n))) (sym er)
+      (subst WholeLaid le whole-there lb h k)
+
+-- part of a record's body: n bytes from an index on
+pub part-length : (bodies : List ℕ) (from n : ℕ) → from + n ≤ length bodies → length (take n (drop from bodies)) ≡ n
+part-length bodies from n h = length-take-le n (drop from bodies) (omega (arith, length-drop from bodies))
+
+-- ---- S
+module _ (g : Geometry) (s : Shape) (i i₁ i₂ : List ℕ) (d d₁ d₂ : Desk) where
+  spanned-there : (x : List ℕ) → Ready g i s d → HasRoom g s i d (least x) i₁ d₁ → Steps g s i₁ d₁ (λ more. spread (suc (length x)) (s .B) false (d₁ .room) x more) i₂ d₂
+      → Steps g s i d (λ more. startIf (leb (least x) (d .room)) (s .B) (d .room) (λ r. spread (suc (length x)) (s .B) false r x more)) i₂ d₂
+  spanned-there x rd h k =
+      let starting = leb (least x) (d .room) in (
+        λ more tail.
+            one-laid g i i₁ (d .p) (d₁ .p) (cond starting [] (fill (d .rest))) (h .0)
+            (flatLaid (s .size) (d .rest) (startIf starting (s .B) (d .room) (λ r. spread (suc (length x)) (s .B) false r x more)))
+            (flatLaid (s .size) (d₁ .rest) (spread (suc (length x)) (s .B) false (d₁ .room) x more)) tail
+            (rw (h .1, h .2) (start-step starting (s .size) (s .B) (d .room) (d .rest) (λ r. spread (suc (length x)) (s .B) false r x more) (rd .1)))
+            ∙ k .0 more tail,
+        k .1,
+      )
+
+  pub spanned-laid : (bodies : List ℕ) (from n : ℕ) → from + n ≤ length bodies → Ready g i s d → (need : ℕ) → need ≡ leastFor n → HasRoom g s i d need i₁ d₁
+      → Steps g s i₁ d₁ (λ more. spread (suc n) (s .B) false (d₁ .room) (take n (drop from bodies)) more) i₂ d₂
+      → Steps g s i d (λ more. layRecord spanned (s .joined) (s .B) (d .room) (take n (drop from bodies)) more) i₂ d₂
+  spanned-laid bodies from n l rd need e h k =
+      let x = take n (drop from bodies) in
+      let lx : length x ≡ n = part-length bodies from n l in
+      let lf : need ≡ least x = e ∙ (ap leastFor (sym lx) ∙ sym (least-for x)) in
+      spanned-there x rd (subst (λ (m : ℕ). HasRoom g s i d m i₁ d₁) lf h)
+      (subst (λ (m : ℕ). Steps g s i₁ d₁ (λ more. spread (suc m) (s .B) false (d₁ .room) x more) i₂ d₂) (sym lx) k)
+
+pub room-ready : (g : Geometry) (s : Shape) (i i₁ : List ℕ) (d d₁ : Desk) (need : ℕ) → Shaped s → Ready g i s d → need ≤ s .B → HasRoom g s i d need i₁ d₁
+    → Ready g i₁ s d₁ × (need ≤ d₁ .room)
+room-ready g s i i₁ d d₁ need sh rd le h =
+    let starting = leb need (d .room) in
+    let f = fits-there need (d .room) (s .B) le in
+    let inside = cond-both starting (d .room) (s .B) (d .rest) (s .size) (rd .1) (sh .0) in
+    let most = cond-most starting (d .rest) (s .size) (s .size) (rd .2) (omega arith) in
+    let low = cond-most starting (d .room) (s .B) (s .B) (rd .3) (omega arith) in
+    let er = h .1 in
+    let es = h .2 in
+    ((h .0 .1, omega arith, omega arith, omega arith), omega arith)
+
+part-back : (bodies : List ℕ) (from k n : ℕ) → drop k (take n (drop from bodies)) ≡ take (n - k) (drop (from + k) bodies)
+part-back bodies from k n =
+    drop-take k n (drop from bodies) ∙ ap (take (n - k)) (drop-drop k from bodies)
+
+module _ (g : Geometry) (size B : ℕ) (bodies : List ℕ) where
+  -- what is to be laid of a record of S from here on, and what follows
+  abbrev pub Left : List ℕ → Pen → ℕ → ℕ → ℕ → ℕ → Bool → (ℕ → Laid) → List ℕ → List ℕ
+  Left i p room rest from n begun more tail =
+      laidBy g i p (flatLaid size rest (spread (suc n) B begun room (take n (drop from bodies)) more) ++ tail)
+
+  module _ (i i₁ : List ℕ) (p p₁ : Pen) (room rest from n : ℕ) (begun : Bool) where
+    pub segment-on : from + n ≤ length bodies → room < 5 + n → leastFor n ≤ room → leastFor n ≤ B → room ≤ rest
+        → Lays g i p (segment (segmentRole begun false) (take (room - 5) (drop from bodies)) ++ fill (rest - room)) i₁ p₁
+        → (more : ℕ → Laid) (tail : List ℕ) → Left i p room rest from n begun more tail ≡ Left i₁ p₁ B size (from + (room - 5)) (n - (room - 5)) true more tail
+    segment-on l o lo hi r h more tail =
+        let k = room - 5 in
+        let x = take n (drop from bodies) in
+        let lx : length x ≡ n = part-length bodies from n l in
+        let lf : least x ≡ leastFor n = least-for x ∙ ap leastFor lx in
+        let y = take (n - k) (drop (from + k) bodies) in
+        let ly : length y ≡ n - k = part-length bodies (from + k) (n - k) (omega arith) in
+        let back : drop k x ≡ y = part-back bodies from k n in
+        let front : take k x ≡ take k (drop from bodies) = take-take k n (drop from bodies) (omega arith) in
+        let one = spread-on size B room rest begun x more (omega arith) (omega arith) (omega arith) r in
+        let two : flatLaid size rest (spread (suc n) B begun room x more)
+        ≡ segment (segmentRole begun false) (take k (drop from bodies)) ++ (fill (rest - room) ++ flatLaid size size (spread (suc (n - k)) B true B y more)) =
+        rw (lx, front, back, ly) at one in
+        one-laid g i i₁ p p₁ (segment (segmentRole begun false) (take k (drop from bodies)) ++ fill (rest - room)) h
+        (flatLaid size rest (spread (suc n) B begun room x more)) (flatLaid size size (spread (suc (n - k)) B true B y more)) tail
+        (two ∙ sym (append-assoc (segment (segmentRole begun false) (take k (drop from bodies))) (fill (rest - room)) _))
+
+    pub segment-end : from + n ≤ length bodies → 5 + n ≤ room
+        → Lays g i p (segment (segmentRole begun true) (take n (drop from bodies)) ++ fill 0) i₁ p₁
+        → (more : ℕ → Laid) (tail : List ℕ) → Left i p room rest from n begun more tail ≡ laidBy g i₁ p₁ (flatLaid size (rest - (5 + n)) (more (room - (5 + n))) ++ tail)
+    segment-end l o h more tail =
+        let x = take n (drop from bodies) in
+        let lx : length x ≡ n = part-length bodies from n l in
+        let one = spread-here n size B room rest begun x more (omega arith) in
+        let two : flatLaid size rest (spread (suc n) B begun room x more)
+        ≡ segment (segmentRole begun true) x ++ flatLaid size (rest - (5 + n)) (more (room - (5 + n))) =
+        rw lx at one in
+        one-laid g i i₁ p p₁ (segment (segmentRole begun true) x ++ fill 0) h
+        (flatLaid size rest (spread (suc n) B begun room x more)) (flatLaid size (rest - (5 + n)) (more (room - (5 + n)))) tail
+        (two ∙ sym (append-assoc (segment (segmentRole begun true) x) (fill 0) _))
+
+-- a segment that goes on takes a byte or more, and so does the next
+pub on-facts : (n room B : ℕ) → room < 5 + n → leastFor n ≤ room → leastFor n ≤ B → (6 ≤ room) × (6 ≤ B)
+on-facts zero room B o lo hi = absurd (omega (arith, o, lo))
+on-facts (suc n) room B o lo hi = (lo, hi)
+
+pub least-bounds : (n : ℕ) → (5 ≤ leastFor n) × (leastFor n ≤ 6)
+least-bounds zero = (omega arith, omega arith)
+least-bounds (suc n) = (omega arith, omega arith)
+
+-- control words
+pub variable-laid : (g : Geometry) (i i₁ i₂ : List ℕ) (p p₁ p₂ : Pen) (x : List ℕ) (n : ℕ) → length x ≡ n → Lays g i p (padded 4 (4 + n)) i₁ p₁ → Lays g i₁ p₁ (x ++ fill 0) i₂ p₂
+    → Lays g i p (recordV x) i₂ p₂
+unfolding recordV
+variable-laid g i i₁ i₂ p p₁ p₂ x n e h k =
+    rw e (lays-then g i i₁ i₂ p p₁ p₂ (padded 4 (4 + n)) x h (lays-plain g i₁ i₂ p₁ p₂ x k))
+
+pub segment-laid : (g : Geometry) (i i₁ i₂ : List ℕ) (p p₁ p₂ : Pen) (role : Role) (digit : ℕ) (x : List ℕ) (n zeros : ℕ) → length x ≡ n → 48 + digit ≡ roleByte role
+    → Lays g i p (wordS digit (5 + n)) i₁ p₁ → Lays g i₁ p₁ (x ++ fill zeros) i₂ p₂ → Lays g i p (segment role x ++ fill zeros) i₂ p₂
+unfolding segment
+segment-laid g i i₁ i₂ p p₁ p₂ role digit x n zeros e r h k =
+    let w : Lays g i p (wordS digit (5 + n) ++ (x ++ fill zeros)) i₂ p₂ = lays-then g i i₁ i₂ p p₁ p₂ (wordS digit (5 + n)) (x ++ fill zeros) h k in
+    let q : wordS digit (5 + n) ++ (x ++ fill zeros) ≡ (roleByte role ∷ (padded 4 (5 + length x) ++ x)) ++ fill zeros =
+    rw (e, sym r) (ap (λ (l : List ℕ). (48 + digit) ∷ l) (sym (append-assoc (padded 4 (5 + n)) x (fill zeros)))) in
+    subst (λ (l : List ℕ). Lays g i p l i₂ p₂) q w
+
+-- a record of the format that the shape has
+pub of-form : (g : Geometry) (s : Shape) (i i′ : List ℕ) (d d′ : Desk) (x : List ℕ) (f : Form) → s .form ≡ f
+    → Steps g s i d (λ more. layRecord (formatFor f) (s .joined) (s .B) (d .room) x more) i′ d′
+    → Steps g s i d (λ more. layRecord (formatFor (s .form)) (s .joined) (s .B) (d .room) x more) i′ d′
+of-form g s i i′ d d′ x f e h =
+    subst (λ (k : Form). Steps g s i d (λ more. layRecord (formatFor k) (s .joined) (s .B) (d .room) x more) i′ d′) (sym e) h
+
+-- ---- THE LIST, record by record
+module _ (g : Geometry) (s : Shape) (bodies lengths : List ℕ) where
+  -- what is to be laid from record i on, whose body begins at `from`, and what follows
+  abbrev pub Behind : List ℕ → Desk → ℕ → ℕ → List ℕ → List ℕ
+  Behind i d k from tail =
+      laidBy g i (d .p)
+      (flatLaid (s .size) (d .rest) (layFrom (formatFor (s .form)) (s .joined) (s .B) (d .room) (parted (drop from bodies) (drop k lengths))) ++ tail)
+
+  pub record-on : (i i′ : List ℕ) (d d′ : Desk) (k from n : ℕ) → k < length lengths → n ≡ getD lengths k 0
+      → Steps g s i d (λ more. layRecord (formatFor (s .form)) (s .joined) (s .B) (d .room) (take n (drop from bodies)) more) i′ d′
+      → (tail : List ℕ) → Behind i d k from tail ≡ Behind i′ d′ (k + 1) (from + n) tail
+  unfolding layFrom parted
+  record-on i i′ d d′ k from n l e h tail =
+      let f = formatFor (s .form) in
+      let first : drop k lengths ≡ n ∷ drop (k + 1) lengths = drop-cons lengths k 0 l ∙ (ap (λ (m : ℕ). m ∷ drop (suc k) lengths) (sym e) ∙ ap (λ (j : ℕ). n ∷ drop j lengths) (sym (add-one k))) in
+      let later : drop n (drop from bodies) ≡ drop (from + n) bodies = drop-drop n from bodies in
+      ap (λ (xs : List ℕ). laidBy g i (d .p) (flatLaid (s .size) (d .rest) (layFrom f (s .joined) (s .B) (d .room) (parted (drop from bodies) xs)) ++ tail)) first
+      ∙ (h .0 (λ r. layFrom f (s .joined) (s .B) r (parted (drop n (drop from bodies)) (drop (k + 1) lengths))) tail
+      ∙ ap (λ (ys : List ℕ). laidBy g i′ (d′ .p) (flatLaid (s .size) (d′ .rest) (layFrom f (s .joined) (s .B) (d′ .room) (parted ys (drop (k + 1) lengths))) ++ tail)) later)
+
+  -- the record's body is there, and fits
+  pub record-fits : (k from : ℕ) → k < length lengths → total (drop k lengths) + from ≡ length bodies → EachFits (formatFor (s .form)) (s .B) (drop k lengths)
+      → (FitsIn (formatFor (s .form)) (s .B) (getD lengths k 0)) × (from + getD lengths k 0 ≤ length bodies)
+      × (total (drop (k + 1) lengths) + (from + getD lengths k 0) ≡ length bodies) × EachFits (formatFor (s .form)) (s .B) (drop (k + 1) lengths)
+  record-fits k from l t f =
+      let sum = total-drop lengths k l in
+      let q : EachFits (formatFor (s .form)) (s .B) (getD lengths k 0 ∷ drop (suc k) lengths) = subst (EachFits (formatFor (s .form)) (s .B)) (drop-cons lengths k 0 l) f in
+      let later : EachFits (formatFor (s .form)) (s .B) (drop (k + 1) lengths) = rw (add-one k) (q .1) in
+      (q .0, omega arith, omega arith, later)
+
+  -- behind the last record there is the fill
+  pub records-end : (i i′ : List ℕ) (d : Desk) (k from : ℕ) (p : Pen) → length lengths ≤ k → Lays g i (d .p) (fill (d .rest)) i′ p → (tail : List ℕ) → Behind i d k from tail ≡ laidBy g i′ p tail
+  unfolding layFrom parted flat
+  records-end i i′ d k from p l h tail =
+      let none : drop k lengths ≡ [] = drop-of-length-le lengths l in
+      let f = formatFor (s .form) in
+      ap (λ (xs : List ℕ). laidBy g i (d .p) (flatLaid (s .size) (d .rest) (layFrom f (s .joined) (s .B) (d .room) (parted (drop from bodies) xs)) ++ tail)) none
+      ∙ (ap (λ (ys : List ℕ). laidBy g i (d .p) ((ys ++ flat (s .size) []) ++ tail)) (filled-none (d .rest))
+      ∙ (ap (λ (ys : List ℕ). laidBy g i (d .p) (ys ++ tail)) (append-nil (fill (d .rest))) ∙ h .0 tail))
+
+-- ---- FROM THE FIRST RECORD ON
+some-bytes : (C : List ℕ → Type 0) (xs : List ℕ) → 1 ≤ length xs → ((b : ℕ) (bytes : List ℕ) → C (b ∷ bytes)) → C xs
+some-bytes C [] h k = absurd (not-suc-le-zero h)
+some-bytes C (b ∷ bytes) h k = k b bytes
+
+filled-some : (size : ℕ) (c rest : List ℕ) → 1 ≤ size → 1 ≤ length (filledTo size c ++ rest)
+unfolding filledTo
+filled-some size [] rest h = omega (arith, length-append (fill (size - 0)) rest, fill-length (size - 0))
+filled-some size (x ∷ c) rest h = omega arith
+
+packed-some : (f : Format) (blocked : Bool) (size B : ℕ) (x : List ℕ) (xs : List (List ℕ)) → 1 ≤ size → 1 ≤ length (flat size (packIn f blocked B (x ∷ xs) .contents))
+unfolding flat layOne
+packed-some fixed blocked size B x xs h = filled-some size _ _ h
+packed-some variable true size B x xs h = filled-some size _ _ h
+packed-some variable false size B x xs h = filled-some size _ _ h
+packed-some spanned blocked size B x xs h = filled-some size _ _ h
+
+listed-some : (f : Format) (blocked : Bool) (size B : ℕ) (bodies lengths : List ℕ) → 1 ≤ size → (length lengths ≡ 0 → ⊥)
+    → 1 ≤ length (flat size (packIn f blocked B (parted bodies lengths) .contents))
+unfolding parted
+listed-some f blocked size B bodies [] h n = absurd (n refl)
+listed-some f blocked size B bodies (k ∷ lengths) h n = packed-some f blocked size B (take k bodies) (parted (drop k bodies) lengths) h
+
+module _ (g : Geometry) (i : List ℕ) (c : Cursor) (f : Format) (blocked : Bool) (size B : ℕ) (bodies lengths : List ℕ) where
+  abbrev blocksOf : List (List ℕ)
+  blocksOf = packIn f blocked B (parted bodies lengths) .contents
+
+  -- no records: nothing is laid
+  pub stored-none : length lengths ≡ 0 → i ≡ poured g (standing g i c) (flat size blocksOf) i
+  unfolding poured parted flat layOne
+  stored-none e = go lengths e f blocked (standing g i c)
+    where
+      nothing : (more : List Address) → i ≡ poured g more [] i
+      nothing [] = refl
+      nothing (a ∷ more) = refl
+
+      go : (l : List ℕ) → length l ≡ 0 → (f : Format) (blocked : Bool) (more : List Address) → i ≡ poured g more (flat size (packIn f blocked B (parted bodies l) .contents)) i
+      go [] e fixed blocked more = nothing more
+      go [] e variable true more = nothing more
+      go [] e variable false more = nothing more
+      go [] e spanned blocked more = nothing more
+      go (n ∷ l) e f blocked more = absurd (omega (arith, e))
+
+  -- no good record: nothing is laid
+  pub stored-nowhere : c .left ≡ 0 → i ≡ poured g (standing g i c) (flat size blocksOf) i
+  unfolding poured
+  stored-nowhere e = rw (stand-none g i c (omega (arith, e)))
+
+  pub stored-all : (i₁ i₂ : List ℕ) (p r : Pen) → (j : Bool) → j ≡ joins f blocked → 1 ≤ size → B ≤ size → EachFits f B lengths → total lengths ≡ length bodies → (length lengths ≡ 0 → ⊥)
+      → ((b : ℕ) (bytes : List ℕ) → poured g (standing g i c) (b ∷ bytes) i ≡ laidBy g i₁ p (b ∷ bytes))
+      → Lays g i₁ p (flatLaid size 0 (layFrom f j B 0 (parted bodies lengths))) i₂ r
+      → i₂ ≡ poured g (standing g i c) (flat size blocksOf) i
+  stored-all i₁ i₂ p r j ej sz b fits sum some h k =
+      let cs = flat size blocksOf in
+      let same : cs ≡ flatLaid size 0 (layFrom f (joins f blocked) B 0 (parted bodies lengths)) =
+      packed-flat f blocked size B (parted bodies lengths) b (subst (EachFits f B) (sym (parted-lengths lengths bodies sum)) fits) in
+      let begins : poured g (standing g i c) cs i ≡ laidBy g i₁ p cs =
+      some-bytes (λ (xs : List ℕ). poured g (standing g i c) xs i ≡ laidBy g i₁ p xs) cs (listed-some f blocked size B bodies lengths sz some) h in
+      sym (begins
+      ∙ (ap (laidBy g i₁ p) (same ∙ (ap (λ (t : Bool). flatLaid size 0 (layFrom f t B 0 (parted bodies lengths))) (sym ej) ∙ sym (append-nil _)))
+      ∙ (k .0 [] ∙ lays-done g i₂ r (k .1))))

@@ -1,0 +1,304 @@
+// The records of a list laid into blocks: "F: B/R to a block. V unblocked: one to a block; blocked: into the current block if it fits, else the next. S: a segment
+// starts where 6 bytes are left (5 for an empty record), takes what fits, and goes on in the next block. Content left, and physical records' ends, are filled with
+// 00." Everything here is inner: the writer calls it when nothing can be refused any more.
+use extents::Cursor;
+use fields::wide16;
+use filling::Pen;
+use filling::begin;
+use filling::put;
+use filling::put_length;
+use filling::put_segment;
+use labels::Form;
+use sizing::least_for;
+use standard::Geometry;
+ghost use mathlib.Core.Path.{_≡_};
+ghost use mathlib.Core.Bool.{true, false, cond};
+ghost use mathlib.Core.List.{_++_};
+ghost use Prim.Native.Nat.{suc, _+_, _*_, _<_, _≤_};
+ghost use lib.ListN.{length, take, drop};
+ghost use Rattle.standard.specs.Labels.{fixed, variable, spanned};
+ghost use Rattle.standard.specs.Packing.{fill, roleByte, segment, segmentRole, spread, packIn};
+ghost use Rattle.standard.specs.Writing.{total, parted};
+ghost use Rattle.promises.specs.NeededLaws.{leastFor, FitsIn, EachFits};
+ghost use Rattle.labels.specs.Forms.{formatFor};
+ghost use Rattle.extents.specs.Cursors.{legalAt, standing};
+ghost use Rattle.filling.specs.Poured.{poured, flat, Sized, Placed, Lays};
+ghost use Rattle.laying.specs.Ahead.{layFrom, layRecord, joins, flatLaid, Shaped, Ready, HasRoom, Steps};
+
+// How a list is laid: the format; whether a record may stand behind another in its block; B, and the bytes of a block's m physical records.
+pub struct Shape {
+    pub form: Form,
+    pub joined: bool,
+    pub B: u64,
+    pub size: u64,
+}
+
+// Where the writer stands: its pen, the room left in the current block, and the bytes that are left of its physical records.
+pub struct Desk {
+    pub p: Pen,
+    pub room: u64,
+    pub rest: u64,
+}
+
+// The current block if it has so much room; else it is filled up, and the next one begins.
+fn room_for(g: Geometry, image: &mut [u8], s: Shape, d: Desk, need: u64) -> Desk
+    requires { ⌜ (Shaped s) × (Ready g (now image) s d) ⌝ }
+    ensures { λ r. ⌜ HasRoom g s (now (image .entry)) d need (now (image .exit)) r ⌝ }
+{
+    if need <= d.room {
+        return d;
+    }
+    let p = d.p;
+    let q = put(g, image, p, b"", 0, 0, d.rest);
+    Desk {
+        p: q,
+        room: s.B,
+        rest: s.size,
+    }
+}
+
+// What is left of the room for the next record.
+fn kept(joined: bool, room: u64) -> u64
+    ensures { λ r. ⌜ r ≡ cond joined room 0 ⌝ }
+{
+    if joined {
+        return room;
+    }
+    0
+}
+
+// A record of F.
+fn lay_fixed(
+    g: Geometry,
+    image: &mut [u8],
+    s: Shape,
+    d: Desk,
+    bodies: &[u8],
+    from: u64,
+    n: u64,
+) -> Desk
+    requires { ⌜ (Shaped s) × (Ready g (now image) s d) × (n ≤ s .B) × (from + n ≤ length (now bodies)) ⌝ }
+    ensures { λ r. ⌜ Steps g s (now (image .entry)) d (λ more. layRecord fixed (s .joined) (s .B) (d .room) (take n (drop from (now (bodies .entry)))) more) (now (image .exit)) r ⌝ }
+{
+    let joined = s.joined;
+    let b = room_for(g, image, s, d, n);
+    let p = b.p;
+    let room = b.room;
+    let rest = b.rest;
+    let q = put(g, image, p, bodies, from, n, 0);
+    Desk {
+        p: q,
+        room: kept(joined, room - n),
+        rest: rest - n,
+    }
+}
+
+// A record of V, with its control word.
+fn lay_variable(
+    g: Geometry,
+    image: &mut [u8],
+    s: Shape,
+    d: Desk,
+    bodies: &[u8],
+    from: u64,
+    n: u64,
+) -> Desk
+    requires { ⌜ (Shaped s) × (Ready g (now image) s d) × (4 + n ≤ s .B) × (from + n ≤ length (now bodies)) ⌝ }
+    ensures { λ r. ⌜ Steps g s (now (image .entry)) d (λ more. layRecord variable (s .joined) (s .B) (d .room) (take n (drop from (now (bodies .entry)))) more) (now (image .exit)) r ⌝ }
+{
+    let joined = s.joined;
+    let size = 4 + n;
+    let b = room_for(g, image, s, d, size);
+    let p = b.p;
+    let room = b.room;
+    let rest = b.rest;
+    let q = put_length(g, image, p, size);
+    let t = put(g, image, q, bodies, from, n, 0);
+    Desk {
+        p: t,
+        room: kept(joined, room - size),
+        rest: rest - size,
+    }
+}
+
+// The digit of a segment: `0` alone, `1` the first, `2` between, `3` the last.
+fn role_of(begun: bool, ends: bool) -> u64
+    ensures { λ r. ⌜ (48 + r ≡ roleByte (segmentRole begun ends)) × (r < 4) ⌝ }
+{
+    if begun {
+        if ends {
+            return 3;
+        }
+        return 2;
+    }
+    if ends {
+        return 0;
+    }
+    1
+}
+
+// A segment with n bytes of a body, and fill behind it.
+fn lay_segment(
+    g: Geometry,
+    image: &mut [u8],
+    p: Pen,
+    begun: bool,
+    ends: bool,
+    bodies: &[u8],
+    from: u64,
+    n: u64,
+    zeros: u64,
+) -> Pen
+    requires { ⌜ (Placed g (now image) p) × (from + n ≤ length (now bodies)) × (n < 4294967296) × (zeros < 4294967296) ⌝ }
+    ensures { λ r. ⌜ Lays g (now (image .entry)) p (segment (segmentRole begun ends) (take n (drop from (now (bodies .entry)))) ++ fill zeros) (now (image .exit)) r ⌝ }
+{
+    let q = put_segment(g, image, p, role_of(begun, ends), 5 + n);
+    put(g, image, q, bodies, from, n, zeros)
+}
+
+// The segments of a record of S, from a desk with room for the first: each "takes what fits, and goes on in the next block".
+fn spread(
+    g: Geometry,
+    image: &mut [u8],
+    s: Shape,
+    start: Desk,
+    bodies: &[u8],
+    first: u64,
+    body: u64,
+) -> Desk
+    requires { ⌜ (Shaped s) × (Ready g (now image) s start) × (leastFor body ≤ start .room) × (leastFor body ≤ s .B) × (first + body ≤ length (now bodies)) × (body < 4294967296) ⌝ }
+    ensures { λ r. ⌜ Steps g s (now (image .entry)) start (λ more. spread (suc body) (s .B) false (start .room) (take body (drop first (now (bodies .entry)))) more) (now (image .exit)) r ⌝ }
+{
+    let B = s.B;
+    let size = s.size;
+    let mut p = start.p;
+    let mut room = start.room;
+    let mut rest = start.rest;
+    let mut from = first;
+    let mut n = body;
+    let mut begun = false;
+    while room < 5 + n {
+        let k = room - 5;
+        p = lay_segment(g, image, p, begun, false, bodies, from, k, rest - room);
+        room = B;
+        rest = size;
+        from += k;
+        n -= k;
+        begun = true;
+    }
+    let q = lay_segment(g, image, p, begun, true, bodies, from, n, 0);
+    Desk {
+        p: q,
+        room: room - (5 + n),
+        rest: rest - (5 + n),
+    }
+}
+
+// A record of S.
+fn lay_spanned(
+    g: Geometry,
+    image: &mut [u8],
+    s: Shape,
+    d: Desk,
+    bodies: &[u8],
+    from: u64,
+    n: u64,
+) -> Desk
+    requires { ⌜ (Shaped s) × (Ready g (now image) s d) × (leastFor n ≤ s .B) × (from + n ≤ length (now bodies)) × (n < 4294967296) ⌝ }
+    ensures { λ r. ⌜ Steps g s (now (image .entry)) d (λ more. layRecord spanned (s .joined) (s .B) (d .room) (take n (drop from (now (bodies .entry)))) more) (now (image .exit)) r ⌝ }
+{
+    let b = room_for(g, image, s, d, least_for(n));
+    spread(g, image, s, b, bodies, from, n)
+}
+
+// A record of any format.
+fn lay_record(
+    g: Geometry,
+    image: &mut [u8],
+    s: Shape,
+    d: Desk,
+    bodies: &[u8],
+    from: u64,
+    n: u64,
+) -> Desk
+    requires { ⌜ (Shaped s) × (Ready g (now image) s d) × (FitsIn (formatFor (s .form)) (s .B) n) × (from + n ≤ length (now bodies)) × (n < 4294967296) ⌝ }
+    ensures { λ r. ⌜ Steps g s (now (image .entry)) d (λ more. layRecord (formatFor (s .form)) (s .joined) (s .B) (d .room) (take n (drop from (now (bodies .entry)))) more) (now (image .exit)) r ⌝ }
+{
+    let form = s.form;
+    match form {
+        Form::Fixed => lay_fixed(g, image, s, d, bodies, from, n),
+        Form::Variable => lay_variable(g, image, s, d, bodies, from, n),
+        Form::Spanned => lay_spanned(g, image, s, d, bodies, from, n),
+    }
+}
+
+// All records of a list, from no block and no room on, and the fill behind the last.
+fn lay_records(
+    g: Geometry,
+    image: &mut [u8],
+    s: Shape,
+    start: Pen,
+    bodies: &[u8],
+    lengths: &[u32],
+) -> Pen
+    requires { ⌜ (Shaped s) × (Placed g (now image) start) × (EachFits (formatFor (s .form)) (s .B) (now lengths)) × (total (now lengths) ≡ length (now bodies)) ⌝ }
+    ensures { λ r. ⌜ Lays g (now (image .entry)) start (flatLaid (s .size) 0 (layFrom (formatFor (s .form)) (s .joined) (s .B) 0 (parted (now (bodies .entry)) (now (lengths .entry))))) (now (image .exit)) r ⌝ }
+{
+    let mut d = Desk {
+        p: start,
+        room: 0,
+        rest: 0,
+    };
+    let mut i = 0;
+    let mut from = 0;
+    while i < lengths.len() {
+        let n = lengths[i] as u64;
+        d = lay_record(g, image, s, d, bodies, from, n);
+        from += n;
+        i += 1;
+    }
+    let p = d.p;
+    put(g, image, p, b"", 0, 0, d.rest)
+}
+
+// Whether the next record may stand behind one in the same block: "V unblocked: one to a block".
+fn joins(form: Form, blocked: bool) -> bool
+    ensures { λ r. ⌜ r ≡ joins (formatFor form) blocked ⌝ }
+{
+    match form {
+        Form::Fixed => true,
+        Form::Variable => blocked,
+        Form::Spanned => true,
+    }
+}
+
+// The list, as it is packed into blocks, over the good records from a cursor on: "blocks take m good records in turn".
+pub fn store(
+    g: Geometry,
+    image: &mut [u8],
+    c: Cursor,
+    form: Form,
+    blocked: bool,
+    B: u64,
+    m: u64,
+    bodies: &[u8],
+    lengths: &[u32],
+)
+    requires { ⌜ (Sized g (now image)) × (legalAt g c ≡ true) × (1 ≤ m) × (B ≤ m * g .P) × (m * g .P < 4294967296) × (EachFits (formatFor form) B (now lengths)) × (total (now lengths) ≡ length (now bodies)) ⌝ }
+    ensures { λ r. ⌜ now (image .exit) ≡ poured g (standing g (now (image .entry)) c) (flat (m * g .P) (packIn (formatFor form) blocked B (parted (now (bodies .entry)) (now (lengths .entry))) .contents)) (now (image .entry)) ⌝ }
+{
+    if lengths.len() == 0 {
+        return;
+    }
+    if c.left == 0 {
+        return;
+    }
+    let s = Shape {
+        form: form,
+        joined: joins(form, blocked),
+        B: B,
+        size: m * wide16(g.P),
+    };
+    let p = begin(g, image, c);
+    lay_records(g, image, s, p, bodies, lengths);
+}
