@@ -1,0 +1,45 @@
+-- U, and then the data end.
+-- Assumes nothing.
+use denote.Ref.{now}
+use Rattle.relabel.proofs.SpliceLaws.{set-both}
+use borrow.Author.Needs.{needs}
+use Rattle.relabel.proofs.set_label.Statement.{statement}
+use Rattle.relabel.proofs.set_label.Tie as tie
+
+label-offset-requires : tie.Need-label-offset-requires
+label-offset-requires c κs = search needs
+
+add-put-unused : tie.Need-add-put-unused
+add-put-unused c = search needs
+
+put-unused-requires : tie.Need-put-unused-requires
+put-unused-requires c κs = search needs
+
+add-put-end : tie.Need-add-put-end
+add-put-end c = search needs
+
+put-end-requires : tie.Need-put-end-requires
+put-end-requires c κs = search needs
+
+same-length : tie.Need-same-length
+same-length c = search needs
+
+returns : tie.Need-returns
+returns c =
+    let x = c .before .before .before .before .before .before .before .before .before .before .args in
+    let o = c .before .before .before .before .before .before .before .before .label-offset in
+    let p = c .before .before .before .before .before .before .put-unused in
+    let q = c .before .before .put-end in
+    set-both (x .g) (x .slot) (x .U) (o .result) (x .end) (now (x .image)) (p .last .0) (q .last .0) (o .ensures .0) (p .ensures) (q .ensures)
+
+pub set-label-spec : {M : Type 1} → statement M
+set-label-spec =
+    tie.close
+    (tie.spec
+    label-offset-requires
+    add-put-unused
+    put-unused-requires
+    add-put-end
+    put-end-requires
+    same-length
+    returns)
