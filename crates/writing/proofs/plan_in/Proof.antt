@@ -1,0 +1,112 @@
+-- Each exit by its law.
+-- Assumes nothing.
+use mathlib.Core.Path.{sym, ap, _∙_}
+use Prim.Native.Nat.{ℕ}
+use mathlib.Core.List.{List}
+use denote.Ref.{now}
+use Rattle.standard.specs.Characters.{at}
+use Rattle.volume.proofs.NumberLaws.{slotted-of}
+use Rattle.volume.proofs.FindLaws.{room-there}
+use Rattle.opening.proofs.OpenLaws.{usable-facts}
+use Rattle.writing.specs.declared.Planned.the-variants.{Stop}
+use Rattle.writing.proofs.PlanLaws.{plan-24, plan-stop, plan-on}
+use borrow.Author.Needs.{needs}
+use Rattle.writing.proofs.plan_in.Statement.{statement}
+use Rattle.writing.proofs.plan_in.Tie as tie
+
+-- src/lib.rt:196:9
+usable-requires : tie.Need-usable-requires
+usable-requires c κs = search needs
+
+-- src/lib.rt:198:26
+enum-known-u : tie.Need-enum-known-u
+enum-known-u c = search needs
+
+-- src/lib.rt:200:17
+enum-told : tie.Need-enum-told
+enum-told c = search needs
+
+-- src/lib.rt:200:17
+label-at-requires : tie.Need-label-at-requires
+label-at-requires c κs =
+    let x = c .before .before .before .before .before .before in
+    let a = x .args in
+    let i = now (a .image) in
+    let u = c .before .before .usable in
+    let ok = sym (u .ensures) ∙ c .enum-told .given .1 in
+    let f = usable-facts (a .g) i (a .slot) ok in
+    room-there (a .g) i (a .slot) (slotted-of i (a .g) (x .pre)) (f .0)
+
+-- src/lib.rt:201:21
+shared-slice-read-wide : tie.Need-shared-slice-read-wide
+shared-slice-read-wide c = search needs
+
+-- src/lib.rt:201:16
+wide-requires : tie.Need-wide-requires
+wide-requires c κs = search needs
+
+-- src/lib.rt:202:38
+refusal-requires : tie.Need-refusal-requires
+refusal-requires c κs = search needs
+
+-- src/lib.rt:202:17
+returns : tie.Need-returns
+returns c =
+    let x = c .before .before .before .before .before .before .before .before .before .before .before in
+    let a = x .args in
+    let i = now (a .image) in
+    let u = c .before .before .before .before .before .before .before .usable in
+    let ok = sym (u .ensures) ∙ c .before .before .before .before .before .enum-told .given .1 in
+    let f = usable-facts (a .g) i (a .slot) ok in
+    let l = c .before .before .before .before .label-at in
+    let w = c .before .before .wide in
+    let e = ap (λ (h : List ℕ). at h 43) (sym (l .ensures .0)) ∙ sym (w .ensures .0) in
+    ap Stop (c .refusal .ensures) ∙ plan-24 (a .g) i (a .slot) (now (a .bodies)) (now (a .lengths)) ok (e ∙ c .before .if1 .taken)
+
+-- src/lib.rt:204:13
+drafted-requires : tie.Need-drafted-requires
+drafted-requires c κs =
+    let x = c .before .before .before .before .before .before .before .before .before .before in
+    let a = x .args in
+    let i = now (a .image) in
+    let u = c .before .before .before .before .before .before .usable in
+    let ok = sym (u .ensures) ∙ c .before .before .before .before .enum-told .given .1 in
+    let f = usable-facts (a .g) i (a .slot) ok in
+    let l = c .before .before .before .label-at in
+    (x .pre, f .0, f .1, l .ensures .0, l .ensures .1)
+
+-- src/lib.rt:192:1
+returns-2 : tie.Need-returns-2
+returns-2 c =
+    let a = c .before .before .before .before .before .before .before .args in
+    plan-stop (a .g) (now (a .image)) (a .slot) (now (a .bodies)) (now (a .lengths)) _ (sym (c .before .before .before .usable .ensures) ∙ c .before .u .given .1)
+
+-- src/lib.rt:192:1
+returns-3 : tie.Need-returns-3
+returns-3 c =
+    let x = c .before .before .before .before .before .before .before .before .before .before .before in
+    let a = x .args in
+    let i = now (a .image) in
+    let u = c .before .before .before .before .before .before .before .usable in
+    let ok = sym (u .ensures) ∙ c .before .before .before .before .before .enum-told .given .1 in
+    let f = usable-facts (a .g) i (a .slot) ok in
+    let l = c .before .before .before .before .label-at in
+    let w = c .before .before .wide in
+    let e = ap (λ (h : List ℕ). at h 43) (sym (l .ensures .0)) ∙ sym (w .ensures .0) in
+    c .drafted .ensures ∙ plan-on (a .g) i (a .slot) (now (a .bodies)) (now (a .lengths)) ok (λ q. c .before .if1 .left (sym e ∙ q))
+
+pub plan-in-spec : {M : Type 1} → statement M
+plan-in-spec =
+    tie.close
+    (tie.spec
+    usable-requires
+    enum-known-u
+    enum-told
+    label-at-requires
+    shared-slice-read-wide
+    wide-requires
+    refusal-requires
+    returns
+    drafted-requires
+    returns-2
+    returns-3)
