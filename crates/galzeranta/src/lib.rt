@@ -9,7 +9,8 @@ ghost use Rattle.standard.specs.Files.{counted};
 ghost use Rattle.standard.specs.Free.{freeCount};
 ghost use Rattle.standard.specs.Records.{plain, salvage};
 ghost use Rattle.standard.specs.Reading.{readAnswer, outputAfter};
-ghost use Rattle.standard.specs.Packed.{packedJudged, packedFound, packedCounted, packedAnswer};
+ghost use Rattle.standard.specs.Packed.{packedJudged, packedFound, packedCounted, packedAnswer, packedWritten};
+ghost use Rattle.standard.specs.Writing.{written, imageAfter};
 ghost use Rattle.galzeranta.specs.Asked.{placeOf};
 
 // The judgement of a volume.
@@ -83,4 +84,12 @@ pub extern "C" fn galz_salvage(
     ensures { λ r. ⌜ (r ≡ packedAnswer (readAnswer salvage (now (image .entry)) slot (placeOf block offset mark) (now (out .entry)))) × (now (out .exit) ≡ outputAfter salvage (now (image .entry)) slot (placeOf block offset mark) (now (out .entry))) ⌝ }
 {
     packing::pack_answer(reading::salvage(image, slot, place_of(block, offset, mark), out))
+}
+
+// Writing the file in a slot: all record bodies joined, and their lengths.
+#[no_mangle]
+pub extern "C" fn galz_write(image: &mut [u8], slot: u64, bodies: &[u8], lengths: &[u32]) -> u64
+    ensures { λ r. ⌜ (r ≡ packedWritten (written (now (image .entry)) slot (now (bodies .entry)) (now (lengths .entry)))) × (now (image .exit) ≡ imageAfter (now (image .entry)) slot (now (bodies .entry)) (now (lengths .entry))) ⌝ }
+{
+    packing::pack_written(writing::write(image, slot, bodies, lengths))
 }
