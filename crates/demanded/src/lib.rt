@@ -1,1 +1,1 @@
-// What the demands say of the functions that read. No function stands here.
+// What the demands say of the functions that read and of those that write. No function stands here.

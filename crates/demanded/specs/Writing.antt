@@ -1,0 +1,442 @@
+-- THE DEMANDS REACH THE CODE THAT WRITES, for a reader who proves nothing. As Demanded does for reading: the contract of a function that writes says no more
+-- than that the answer is `written`, and the image afterwards `imageAfter`; here the promises are said of any function that meets it, whatever its code, and
+-- the wrong programs that document 01 names are shown to meet it not. What is read of an image afterwards is read by any function that meets the contract of
+-- reading. The lines behind `=` only name the proof. `A → B`: if A then B; `A × B`: both; `A ⊎ B`: one of them; `A → ⊥`: not A.
+-- Assumes nothing.
+use Prim.Native.Nat.{ℕ, zero, suc, _+_, _-_, _*_, _<_, _≤_}
+use mathlib.Core.Path.{_≡_, refl, sym, ap, subst, _∙_}
+use mathlib.Core.Bool.{true, false}
+use mathlib.Core.Logic.{_⊎_, inl, inr}
+use mathlib.Core.List.{List, [], _∷_, _++_, map}
+use lib.ListN.{length, getD, replicate, take}
+use native.Mathlib.Omega.{arith}
+use borrow.Author.Tests.{lt-ltb, le-ltb, le-leb}
+use Rattle.standard.specs.Characters.{bytes, field, isDigit, digitValue}
+use Rattle.standard.specs.Layout.{kAt, bodySize, kindOffset, bodyOffset, slotCount, slotOrdinal, labelOffset, labelAt}
+use Rattle.standard.specs.Addresses.{legal, rank, stepped, firstAddress, fiveBytes, addressIn}
+use Rattle.standard.specs.Labels.{startOf, endOf, dataEndOf}
+use Rattle.standard.specs.Judgement.{judged}
+use Rattle.standard.specs.Finding.{found, foundAt}
+use Rattle.standard.specs.Free.{freeCount}
+use Rattle.standard.specs.Files.{addressesFrom, isDefective, goodRecords, recordsToBlock, blocksHeld, counted}
+use Rattle.standard.specs.Records.{Mode, plain}
+use Rattle.standard.specs.Places.{start}
+use Rattle.standard.specs.Reading.{readAnswer, outputAfter}
+use Rattle.standard.specs.Writing.{parted, needed, packing, writeList, writeRefusal, unusedField, nextDataEnd, dataEndAfter, written, imageAfter}
+use Rattle.standard.specs.declared.Geometry.{Geometry}
+use Rattle.standard.specs.declared.Address.{Address}
+use Rattle.standard.specs.declared.Place.{Place}
+use Rattle.standard.specs.declared.Refusal.{Refusal}
+use Rattle.standard.specs.declared.Checked.the-variants.{Passed}
+use Rattle.standard.specs.declared.Counted.the-variants.{Count}
+use Rattle.standard.specs.declared.Judged.the-variants.{Refused, Volume}
+use Rattle.standard.specs.declared.Written.{Written}
+use Rattle.standard.specs.declared.Written.the-variants.{Unwritten, Blocks}
+use Rattle.promises.specs.Basics.{never, either, eq-or-not}
+use Rattle.promises.specs.AddressLaws.{parts, step-rank}
+use Rattle.promises.specs.AcceptedLaws.{InRange}
+use Rattle.promises.specs.ReadBack.{enough-records}
+use Rattle.promises.specs.AcceptedWrite.{label-range, after-is}
+use Rattle.promises.specs.WrittenLabel.{records-some, new-end}
+use Rattle.promises.specs.WriteEnds.{end-of-none, end-of-some, end-of-all, end-behind}
+use Rattle.promises.specs.WritingPromises.{joined, answers, labels-stay}
+use Rattle.promises.specs.WrittenHeard.{RoomFor, toldIn, written-heard-in}
+use Rattle.promises.specs.ByteSectors.{MayChange}
+use Rattle.promises.specs.Refusing.{Exactly, First, order-first, first-order, accepted-write}
+use Rattle.promises.specs.Following.{told, done, following}
+use Rattle.promises.specs.Demands.{file-call-refused, writing-refused, refused-writing-stays, write-list, write-counts, write-reads-back, write-changes-no-more, write-sets, write-stays-accepted, others-stay, finding-stays, writing-determined}
+use Rattle.promises.specs.Instances.{demo, demoVolume, demoBodies, demoLengths, demo-accepted, demo-heard}
+use Rattle.demanded.specs.Demanded.{Reader, Meets, some-meets, followed, followed-is}
+use Rattle.demanded.specs.CarryLaws.{last-between, end-behind-last, defects-between, goes-on-inside, goes-on-end, needed-some, needed-none, no-record-heard}
+
+-- WHAT A FUNCTION THAT WRITES DOES, as its caller sees it: it is given an image, a slot, "all record bodies joined, and their lengths", and there is then an
+-- answer, and the image as it is left. (Of lists and numbers that nobody can lend it, it may be thought to do as the definitions do, as in Demanded.)
+pub record WriteOutcome : Type 0 where
+  pub answer : Written
+  pub after : List ℕ
+
+abbrev pub Writer : Type 0
+Writer = List ℕ → ℕ → List ℕ → List ℕ → WriteOutcome
+
+-- IT MEETS THE CONTRACT OF WRITING: both parts of it, for every input
+pub record MeetsWriting (w : Writer) : Type 0 where
+  pub answers : (image : List ℕ) (slot : ℕ) (bodies lengths : List ℕ) → w image slot bodies lengths .answer ≡ written image slot bodies lengths
+  pub leaves : (image : List ℕ) (slot : ℕ) (bodies lengths : List ℕ) → w image slot bodies lengths .after ≡ imageAfter image slot bodies lengths
+
+-- there is such a function: the definitions themselves
+pub some-writes : MeetsWriting (λ image slot bodies lengths. record { answer = written image slot bodies lengths; after = imageAfter image slot bodies lengths })
+some-writes = record { answers = λ image slot bodies lengths. refl; leaves = λ image slot bodies lengths. refl }
+
+-- ======== THE STEP AT THE LAST SECTOR OF A TRACK
+-- "Sector counts fastest, then side, then cylinder." The next side's sector 01, if there is one:
+pub track-carries : (g : Geometry) (a : Address) → a .sector ≡ g .D → a .side + 1 < g .S
+    → stepped g a ≡ record { cylinder = a .cylinder; side = a .side + 1; sector = 1 }
+unfolding stepped
+track-carries g a last l = rw (le-ltb (a .sector) (g .D) (omega (arith, last)), lt-ltb (a .side + 1) (g .S) l)
+
+-- else side 0, sector 01 of the next cylinder:
+pub cylinder-carries : (g : Geometry) (a : Address) → a .sector ≡ g .D → g .S ≤ a .side + 1 → a .cylinder ≤ g .L
+    → stepped g a ≡ record { cylinder = a .cylinder + 1; side = 0; sector = 1 }
+unfolding stepped
+cylinder-carries g a last l k =
+    rw (le-ltb (a .sector) (g .D) (omega (arith, last)), le-ltb (a .side + 1) (g .S) l, le-leb (a .cylinder) (g .L) k)
+
+-- e is the first address of the track behind a's
+abbrev pub NextTrack : Geometry → Address → Address → Type 0
+NextTrack g a e =
+    (a .side + 1 < g .S → e ≡ record { cylinder = a .cylinder; side = a .side + 1; sector = 1 })
+    × (g .S ≤ a .side + 1 → e ≡ record { cylinder = a .cylinder + 1; side = 0; sector = 1 })
+
+carries : (g : Geometry) (a e : Address) → a .sector ≡ g .D → a .cylinder ≤ g .L → e ≡ stepped g a → NextTrack g a e
+carries g a e last k h = ((λ l. h ∙ track-carries g a last l), (λ l. h ∙ cylinder-carries g a last l k))
+
+-- THE SAME IN NUMBERS, of volumes with D = 8 and S sides, L = 5: the step; and the data end of n blocks of one record each in an extent from 01001, all good
+abbrev sides : ℕ → Geometry
+sides S = record { L = 5; I = 8; D = 8; k = 0; P = 128; S = S; d1 = 0; d2 = 0 }
+
+abbrev endOfBlocks : ℕ → List ℕ → ℕ → ℕ → Address
+endOfBlocks S end size n = nextDataEnd (sides S) (addressIn (bytes "01001")) (addressIn end) 1 (addressesFrom (sides S) size (addressIn (bytes "01001"))) n
+
+pub carried :
+    -- S=2: 01008 to 01101, 01108 to 02001; S=1: 01008 to 02001, not to 01001
+    (stepped (sides 2) (addressIn (bytes "01008")) ≡ addressIn (bytes "01101"))
+    × (stepped (sides 2) (addressIn (bytes "01108")) ≡ addressIn (bytes "02001"))
+    × (stepped (sides 1) (addressIn (bytes "01008")) ≡ addressIn (bytes "02001"))
+    × (stepped (sides 1) (addressIn (bytes "01008")) ≡ addressIn (bytes "01001") → ⊥)
+    -- 8 and 16 blocks of an extent 01001 to 02108, S=2; 8 of 01001 to 02008, S=1
+    × (endOfBlocks 2 (bytes "02108") 32 8 ≡ addressIn (bytes "01101"))
+    × (endOfBlocks 2 (bytes "02108") 32 16 ≡ addressIn (bytes "02001"))
+    × (endOfBlocks 1 (bytes "02008") 16 8 ≡ addressIn (bytes "02001"))
+    -- all 8 of an extent 01001 to 01008: past it, S=2 and S=1
+    × (endOfBlocks 2 (bytes "01008") 8 8 ≡ addressIn (bytes "01101"))
+    × (endOfBlocks 1 (bytes "01008") 8 8 ≡ addressIn (bytes "02001"))
+unfolding isDigit digitValue addressIn stepped addressesFrom nextDataEnd
+carried = (refl, refl, refl, (λ h. absurd (omega (arith, ap (λ (a : Address). a .cylinder) h))), refl, refl, refl, refl, refl)
+
+module _ (w : Writer) (meets : MeetsWriting w) where
+  -- ======== DETERMINACY
+  -- "For each input a contract determines the result and every lent byte afterwards, refusals too. Show that any two results it allows are equal"
+  pub writer-determined : (w′ : Writer) → MeetsWriting w′ → (image : List ℕ) (slot : ℕ) (bodies lengths : List ℕ)
+      → (w image slot bodies lengths .answer ≡ w′ image slot bodies lengths .answer) × (w image slot bodies lengths .after ≡ w′ image slot bodies lengths .after)
+  writer-determined w′ meets′ image slot bodies lengths =
+      writing-determined image slot bodies lengths _ _ _ _ (meets .answers image slot bodies lengths, meets .leaves image slot bodies lengths)
+      (meets′ .answers image slot bodies lengths, meets′ .leaves image slot bodies lengths)
+
+  -- ======== DEMAND 1
+  module _ (image : List ℕ) (slot : ℕ) (bodies lengths : List ℕ) where
+    agreed : (a : Written) → w image slot bodies lengths .answer ≡ a → written image slot bodies lengths ≡ a
+    agreed a h = sym (meets .answers image slot bodies lengths) ∙ h
+
+    -- "A file call stops at the first refusal of the volume."
+    pub volume-stops-writing : (x : Refusal) → judged image ≡ Refused x → w image slot bodies lengths .answer ≡ Unwritten x
+    volume-stops-writing x h = meets .answers image slot bodies lengths ∙ file-call-refused image x h .5 slot bodies lengths
+
+    -- "Bad input gets the numbered refusal of document 01, exactly when its list says so": of an accepted volume "13-16, 24, 17, 25-27", which is `writeList`
+    pub refuses-writing-by-the-list : (g : Geometry) (x : Refusal) → judged image ≡ Volume g
+        → Exactly (w image slot bodies lengths .answer ≡ Unwritten x) (First x (writeList g image slot bodies lengths))
+    refuses-writing-by-the-list g x accepted =
+        let e = writing-refused image g accepted slot bodies lengths x in
+        ((λ h. e .0 (agreed (Unwritten x) h)), (λ f. meets .answers image slot bodies lengths ∙ e .1 f))
+
+    -- and it is accepted exactly where none of the list is given: the answer is then the number of blocks that the list needs
+    pub accepts-by-the-list : (g : Geometry) (n : ℕ) → judged image ≡ Volume g
+        → Exactly (w image slot bodies lengths .answer ≡ Blocks n)
+        ((writeRefusal g image slot bodies lengths ≡ Passed) × (n ≡ needed (labelAt g image slot) bodies lengths))
+    accepts-by-the-list g n accepted = (
+      (λ h. (accepted-write image g accepted slot bodies lengths n (agreed (Blocks n) h), write-counts image g slot bodies lengths n accepted (agreed (Blocks n) h) .0)),
+      (λ p. meets .answers image slot bodies lengths ∙ answers image g slot bodies lengths accepted (p .0) ∙ ap Blocks (sym (p .1))),
+    )
+
+    -- "and a refusal changes no byte of the image": "A refusal returns number and place, and all lent bytes stay."
+    pub refused-write-leaves : (x : Refusal) → w image slot bodies lengths .answer ≡ Unwritten x → w image slot bodies lengths .after ≡ image
+    refused-write-leaves x h = meets .leaves image slot bodies lengths ∙ refused-writing-stays image slot bodies lengths x (agreed (Unwritten x) h)
+
+  -- ======== DEMAND 2
+  -- "an accepted write reads back as its list and changes no byte but the sectors it fills and two fields of the label." A write is accepted where it answers
+  -- with a number of blocks, n. `parted bodies lengths`: the list, record by record.
+  module _ (image : List ℕ) (g : Geometry) (slot : ℕ) (bodies lengths : List ℕ) (n : ℕ) (accepted : judged image ≡ Volume g)
+      (success : w image slot bodies lengths .answer ≡ Blocks n) where
+    abbrev after : List ℕ
+    after = w image slot bodies lengths .after
+
+    abbrev label : List ℕ
+    label = labelAt g image slot
+
+    left : after ≡ imageAfter image slot bodies lengths
+    left = meets .leaves image slot bodies lengths
+
+    so : written image slot bodies lengths ≡ Blocks n
+    so = agreed image slot bodies lengths (Blocks n) success
+
+    passed : writeRefusal g image slot bodies lengths ≡ Passed
+    passed = accepted-write image g accepted slot bodies lengths n so
+
+    count : n ≡ needed label bodies lengths
+    count = write-counts image g slot bodies lengths n accepted so .0
+
+    -- the list is the bodies lent, each of its length
+    pub list-is : (map length (parted bodies lengths) ≡ lengths) × (joined (parted bodies lengths) ≡ bodies)
+    list-is = write-list image g slot bodies lengths n accepted so
+
+    -- the number answered is that of the blocks which the list needs, and which the file has afterwards
+    pub blocks-are : (n ≡ needed label bodies lengths) × (counted after slot ≡ Count n)
+    blocks-are = (count, ap (λ (s : List ℕ). counted s slot) left ∙ write-counts image g slot bodies lengths n accepted so .1)
+
+    -- "changes no byte but the sectors it fills and two fields of the label": the length stays, and every byte is as before or `MayChange`, that is, in a
+    -- sector of the n blocks filled, or in positions 58-62 or 75-79 of the label
+    pub changes-no-more : (length after ≡ length image) × ((i : ℕ) → (getD after i 0 ≡ getD image i 0) ⊎ MayChange g image slot n i)
+    changes-no-more =
+        let c = write-changes-no-more image g slot bodies lengths n accepted so in (
+          ap length left ∙ c .0,
+          (λ i.
+              subst (λ (s : List ℕ). (getD s i 0 ≡ getD image i 0) ⊎ MayChange g image slot n i) (sym left)
+              (subst (λ (k : ℕ). (getD (imageAfter image slot bodies lengths) i 0 ≡ getD image i 0) ⊎ MayChange g image slot k i) (sym count) (c .1 i))),
+        )
+
+    -- the image is accepted again, as the same volume
+    pub stays-accepted : judged after ≡ Volume g
+    stays-accepted = ap judged left ∙ write-stays-accepted image g slot bodies lengths n accepted so
+
+    -- "Then U (spaces for 0) and the data end are set"
+    pub sets-fields : (field (labelAt g after slot) 58 62 ≡ unusedField (packing label bodies lengths .U))
+        × (field (labelAt g after slot) 75 79 ≡ fiveBytes (dataEndAfter g image label n))
+    sets-fields =
+        let s = write-sets image g slot bodies lengths n accepted so in (
+          ap (λ (t : List ℕ). field (labelAt g t slot) 58 62) left ∙ s .0,
+          ap (λ (t : List ℕ). field (labelAt g t slot) 75 79) left ∙ s .1 ∙ ap (λ (k : ℕ). fiveBytes (dataEndAfter g image label k)) (sym count),
+        )
+
+    -- "an accepted write reads back as its list": whoever reads it afterwards, plainly or by salvage, from Start and on, hears the list and then End. (The output
+    -- has room for every record, and there is one reading more than there are records.)
+    pub reads-back : (m : Mode) (r : Reader) → Meets m r → (readings : ℕ) (out : List ℕ) → RoomFor (length out) lengths → length lengths + 1 ≤ readings
+        → followed readings r after slot out start ≡ map told (parted bodies lengths) ++ (done ∷ [])
+    reads-back m r reads readings out room enough =
+        followed-is m r reads readings after slot out start
+        ∙ ap (λ (s : List ℕ). following readings m s slot out start) left
+        ∙ write-reads-back image g slot bodies lengths n accepted so m readings out room enough
+
+    -- and with any number of readings and any output: so much of it, up to the first record that is too long for the output, where 23 is heard
+    pub reads-back-in : (m : Mode) (r : Reader) → Meets m r → (readings : ℕ) (out : List ℕ)
+        → followed readings r after slot out start ≡ take readings (toldIn (length out) (parted bodies lengths))
+    reads-back-in m r reads readings out =
+        followed-is m r reads readings after slot out start
+        ∙ ap (λ (s : List ℕ). following readings m s slot out start) left
+        ∙ written-heard-in image g slot bodies lengths accepted passed m readings out
+
+    -- Every other file is as before: every reading of it by whatever function, its count, its label.
+    pub others-read-as-before : (other : ℕ) → (other ≡ slot → ⊥) → (m : Mode) (r : Reader) → Meets m r → (pl : Place) (out : List ℕ)
+        → (r after other pl out .answer ≡ r image other pl out .answer) × (r after other pl out .after ≡ r image other pl out .after)
+    others-read-as-before other ne m r reads pl out =
+        let o = others-stay image g slot bodies lengths n accepted so other ne in (
+          reads .answers after other pl out
+              ∙ ap (λ (s : List ℕ). readAnswer m s other pl out) left
+              ∙ o .0 m pl out
+              ∙ sym (reads .answers image other pl out),
+          reads .leaves after other pl out
+              ∙ ap (λ (s : List ℕ). outputAfter m s other pl out) left
+              ∙ o .1 m pl out
+              ∙ sym (reads .leaves image other pl out),
+        )
+
+    pub others-counted-as-before : (other : ℕ) → (other ≡ slot → ⊥) → counted after other ≡ counted image other
+    others-counted-as-before other ne =
+        ap (λ (s : List ℕ). counted s other) left ∙ others-stay image g slot bodies lengths n accepted so other ne .2
+
+    pub other-labels-stay : (other : ℕ) → (other ≡ slot → ⊥) → 1 ≤ other → other ≤ slotCount g → labelAt g after other ≡ labelAt g image other
+    other-labels-stay other ne low high =
+        ap (λ (s : List ℕ). labelAt g s other) left ∙ labels-stay image g slot bodies lengths accepted passed other ne low high
+
+    -- and so is what is found by every name and in every slot, and the number of free records
+    pub found-as-before : ((name : List ℕ) → found after name ≡ found image name) × ((s : ℕ) → foundAt after s ≡ foundAt image s)
+        × (freeCount after ≡ freeCount image)
+    found-as-before =
+        let f = finding-stays image g slot bodies lengths n accepted so in (
+          (λ name. ap (λ (s : List ℕ). found s name) left ∙ f .0 name),
+          (λ i. ap (λ (s : List ℕ). foundAt s i) left ∙ f .1 i),
+          ap freeCount left ∙ f .2,
+        )
+
+    -- A further write, to this file or another, is refused as it would have been before, or not refused.
+    refusing-stays : (s : ℕ) (b l : List ℕ) → writeRefusal g after s b l ≡ writeRefusal g image s b l
+    refusing-stays s b l =
+        ap (λ (t : List ℕ). writeRefusal g t s b l) left
+        ∙ either (eq-or-not s slot)
+        (λ (e : s ≡ slot).
+        subst (λ (k : ℕ). writeRefusal g (imageAfter image slot bodies lengths) k b l ≡ writeRefusal g image k b l) (sym e)
+        (finding-stays image g slot bodies lengths n accepted so .3 b l))
+        (λ (ne : s ≡ slot → ⊥). others-stay image g slot bodies lengths n accepted so s ne .3 b l)
+
+    pub refused-as-before : (s : ℕ) (b l : List ℕ) (x : Refusal) → Exactly (w after s b l .answer ≡ Unwritten x) (w image s b l .answer ≡ Unwritten x)
+    unfolding writeRefusal
+    refused-as-before s b l x =
+        let now = refuses-writing-by-the-list after s b l g x stays-accepted in
+        let then = refuses-writing-by-the-list image s b l g x accepted in
+        let same = refusing-stays s b l in (
+          (λ h. then .1 (order-first (writeList g image s b l) x (sym same ∙ first-order (writeList g after s b l) x (now .0 h)))),
+          (λ h. now .1 (order-first (writeList g after s b l) x (same ∙ first-order (writeList g image s b l) x (then .0 h)))),
+        )
+
+    -- ======== THE CARRY OF THE DATA END
+    -- "after a write that ends at the last sector of a track, side or cylinder the data end is the next track's first address (or the step past the extent),
+    -- never the extent's start unless the list is empty." The data end is the address that field 75-79 of the label spells afterwards. The last record
+    -- written: "blocks take m good records in turn", so it is the last of the first n·m good ones.
+    abbrev m : ℕ
+    m = recordsToBlock g label
+
+    abbrev good : List Address
+    good = goodRecords g image label
+
+    abbrev dataEnd : Address
+    dataEnd = dataEndOf (labelAt g after slot)
+
+    abbrev lastWritten : Address
+    lastWritten = getD good (n * m - 1) firstAddress
+
+    pub data-end-spelled : (field (labelAt g after slot) 75 79 ≡ fiveBytes dataEnd) × (dataEnd ≡ dataEndAfter g image label n)
+    data-end-spelled =
+        let e : dataEnd ≡ dataEndAfter g image label n =
+        ap (λ (s : List ℕ). dataEndOf (labelAt g s slot)) (left ∙ after-is image g slot bodies lengths accepted passed)
+        ∙ new-end image g slot bodies lengths accepted passed
+        ∙ ap (dataEndAfter g image label) (sym count) in
+        (sets-fields .1 ∙ ap fiveBytes (sym e), e)
+
+    range : InRange g label
+    range = label-range image g slot bodies lengths accepted passed
+
+    m-some : 1 ≤ m
+    m-some = records-some image g slot bodies lengths accepted passed
+
+    enough-good : n * m ≤ length good
+    enough-good = omega (arith, enough-records image g slot bodies lengths accepted passed, ap (λ (x : ℕ). x * m) count)
+
+    -- "start for 0 blocks"
+    pub none-ends-at-the-start : n ≡ 0 → dataEnd ≡ startOf label
+    none-ends-at-the-start e = data-end-spelled .1 ∙ ap (dataEndAfter g image label) e ∙ end-of-none g image label
+
+    module _ (some : 0 < n) where
+      -- "the first good record of the next block if a whole one is left": between the last record written and it there are defective records only
+      pub at-the-next-block : n < blocksHeld g image label
+          → (dataEnd ≡ getD good (n * m) firstAddress)
+          × ((a : Address) → legal g a ≡ true → rank g lastWritten < rank g a → rank g a < rank g dataEnd → isDefective g image a ≡ true)
+      at-the-next-block l = (
+        data-end-spelled .1 ∙ end-of-some g image label n some l,
+        (λ a la low high. defects-between g image label range m-some n some enough-good l a la low (omega (arith, high, ap (rank g) (data-end-spelled .1)))),
+      )
+
+      -- "else the step past the extent's end": not "a data end inside the extent when no whole block is left"
+      pub past-the-extent : blocksHeld g image label ≤ n → (dataEnd ≡ stepped g (endOf label)) × (rank g (endOf label) < rank g dataEnd)
+      past-the-extent l =
+          let e : dataEnd ≡ stepped g (endOf label) = data-end-spelled .1 ∙ end-of-all g image label n some l in
+          (e, omega (arith, ap (rank g) e, step-rank g (endOf label) (range .end-legal)))
+
+      -- NEVER THE START, and never a record written: it is behind both
+      pub never-the-start : (rank g (startOf label) < rank g dataEnd) × (rank g lastWritten < rank g dataEnd)
+      never-the-start = (
+        subst (λ (e : Address). rank g (startOf label) < rank g e) (sym (data-end-spelled .1)) (end-behind g image label range m-some n some),
+        subst (λ (e : Address). rank g lastWritten < rank g e) (sym (data-end-spelled .1)) (end-behind-last g image label range m-some n some enough-good),
+      )
+
+      -- THE ADDRESS BEHIND THE LAST RECORD WRITTEN, where a whole block is left and the record at that address is not defective; or where the last record
+      -- written is the extent's end
+      abbrev GoesOn : Type 0
+      GoesOn = ((n < blocksHeld g image label) × (isDefective g image (stepped g lastWritten) ≡ false)) ⊎ (lastWritten ≡ endOf label)
+
+      pub next-address : GoesOn → dataEnd ≡ stepped g lastWritten
+      next-address (inl p) = data-end-spelled .1 ∙ goes-on-inside g image label range m-some n some enough-good (p .0) (p .1)
+      next-address (inr e) = data-end-spelled .1 ∙ goes-on-end g image label range m-some n some enough-good e
+
+      -- AT THE LAST SECTOR OF A TRACK: the first address of the next track
+      pub next-track : GoesOn → lastWritten .sector ≡ g .D → NextTrack g lastWritten dataEnd
+      next-track h last =
+          carries g lastWritten dataEnd last (parts g lastWritten (last-between g image label range m-some n some enough-good .0) .cylinder-high) (next-address h)
+
+      -- and where no whole block is left in an extent that ends at the last sector of a track, the first address of the track behind the extent
+      pub past-the-track : blocksHeld g image label ≤ n → endOf label .sector ≡ g .D → NextTrack g (endOf label) dataEnd
+      past-the-track l last = carries g (endOf label) dataEnd last (parts g (endOf label) (range .end-legal) .cylinder-high) (past-the-extent l .0)
+
+    -- THE START exactly where the list is empty
+    pub the-start-exactly-if-empty : Exactly (dataEnd ≡ startOf label) (lengths ≡ [])
+    the-start-exactly-if-empty = (
+      (λ h. from lengths refl h),
+      (λ e. none-ends-at-the-start (count ∙ ap (needed label bodies) e ∙ needed-none label bodies)),
+    )
+      where
+        from : (ls : List ℕ) → lengths ≡ ls → dataEnd ≡ startOf label → lengths ≡ []
+        from [] e h = e
+        from (x ∷ xs) e h =
+            let c : n ≡ needed label bodies (x ∷ xs) = count ∙ ap (needed label bodies) e in
+            let p : 0 < n = omega (arith, c, needed-some label bodies x xs) in
+            absurd (omega (arith, never-the-start p .0, ap (rank g) h))
+
+    -- ======== "a write that reports success and stores nothing (read-back)" has to be rejected
+    -- If a reader did not hear this list of the file before, it does not hear after the write what it heard before, and so the image is another
+    pub no-storing-nothing : (r : Reader) → Meets plain r → (readings : ℕ) (out : List ℕ) → RoomFor (length out) lengths → length lengths + 1 ≤ readings
+        → (followed readings r image slot out start ≡ map told (parted bodies lengths) ++ (done ∷ []) → ⊥)
+        → (followed readings r after slot out start ≡ followed readings r image slot out start → ⊥) × (after ≡ image → ⊥)
+    no-storing-nothing r reads readings out room enough otherwise =
+        let heard = reads-back plain r reads readings out room enough in (
+          (λ same. otherwise (sym same ∙ heard)),
+          (λ same. otherwise (ap (λ (s : List ℕ). followed readings r s slot out start) (sym same) ∙ heard)),
+        )
+
+    -- so of a file that had no block before, and any list with a record: no reader hears the same as before, and the image is another
+    unheard : (r : Reader) → Meets plain r → dataEndOf label ≡ startOf label → (out ls : List ℕ) (k : ℕ) → (ls ≡ [] → ⊥) → length ls + 1 ≤ k
+        → followed k r image slot out start ≡ map told (parted bodies ls) ++ (done ∷ []) → ⊥
+    unfolding parted
+    unheard r reads empty out [] k filled enough h = filled refl
+    unheard r reads empty out (x ∷ xs) zero filled enough h = absurd (omega arith)
+    unheard r reads empty out (x ∷ xs) (suc k) filled enough h =
+        no-record-heard image g slot accepted empty plain k out (take x bodies) _ (sym (followed-is plain r reads (suc k) image slot out start) ∙ h)
+
+    pub no-storing-nothing-first : dataEndOf label ≡ startOf label → (lengths ≡ [] → ⊥)
+        → (r : Reader) → Meets plain r → (readings : ℕ) (out : List ℕ) → RoomFor (length out) lengths → length lengths + 1 ≤ readings
+        → (followed readings r after slot out start ≡ followed readings r image slot out start → ⊥) × (after ≡ image → ⊥)
+    no-storing-nothing-first empty filled r reads readings out room enough =
+        no-storing-nothing r reads readings out room enough (unheard r reads empty out lengths readings filled enough)
+
+-- ======== WHAT HAS TO BE REJECTED
+-- "These programs have to be rejected: one refusing everything ..; a write that reports success and stores nothing (read-back)". Of a small volume with an
+-- empty file (`demo`, in Instances) and the list `PARTS`, `LOG`, any function that meets the contract answers one block, and whoever reads the file afterwards
+-- hears both records:
+pub writer-answers : (w : Writer) → MeetsWriting w → w demo 1 demoBodies demoLengths .answer ≡ Blocks 1
+writer-answers w meets = meets .answers demo 1 demoBodies demoLengths ∙ demo-accepted .3
+
+pub writer-heard : (w : Writer) → MeetsWriting w → (r : Reader) → Meets plain r
+    → followed 3 r (w demo 1 demoBodies demoLengths .after) 1 (replicate 5 255) start ≡ told (bytes "PARTS") ∷ told (bytes "LOG") ∷ done ∷ []
+writer-heard w meets r reads =
+    ap (λ (s : List ℕ). followed 3 r s 1 (replicate 5 255) start) (meets .leaves demo 1 demoBodies demoLengths)
+    ∙ followed-is plain r reads 3 (imageAfter demo 1 demoBodies demoLengths) 1 (replicate 5 255) start
+    ∙ demo-heard
+
+-- the file of `demo` has no block yet: its data end is its start
+demo-empty : dataEndOf (labelAt demoVolume demo 1) ≡ startOf (labelAt demoVolume demo 1)
+unfolding kAt bodySize kindOffset bodyOffset slotOrdinal labelOffset labelAt isDigit digitValue addressIn
+demo-empty = refl
+
+module _ (w : Writer) (meets : MeetsWriting w) where
+  -- one that refuses everything: it would refuse this write
+  pub no-refusing-writes : (x : Refusal) → w demo 1 demoBodies demoLengths .answer ≡ Unwritten x → ⊥
+  no-refusing-writes x h = let e = sym (writer-answers w meets) ∙ h in never (cc)
+
+  -- one that stores nothing: every reader would hear what it heard before, and the image would be the one before
+  stored-something : (r : Reader) → Meets plain r
+      → (followed 3 r (w demo 1 demoBodies demoLengths .after) 1 (replicate 5 255) start ≡ followed 3 r demo 1 (replicate 5 255) start → ⊥)
+      × (w demo 1 demoBodies demoLengths .after ≡ demo → ⊥)
+  stored-something r reads =
+      no-storing-nothing-first w meets demo demoVolume 1 demoBodies demoLengths 1 (demo-accepted .1) (writer-answers w meets) demo-empty (λ e. never (cc)) r reads
+      3 (replicate 5 255) (omega arith, (omega arith, tt)) (omega arith)
+
+  pub no-sounding-as-before : (r : Reader) → Meets plain r
+      → followed 3 r (w demo 1 demoBodies demoLengths .after) 1 (replicate 5 255) start ≡ followed 3 r demo 1 (replicate 5 255) start → ⊥
+  no-sounding-as-before r reads = stored-something r reads .0
+
+  pub no-keeping-the-image : w demo 1 demoBodies demoLengths .after ≡ demo → ⊥
+  no-keeping-the-image = stored-something _ (some-meets plain) .1
+
+  -- or one that stores no record, or only the first, as a reader hears it
+  pub no-losing-all : (r : Reader) → Meets plain r → followed 3 r (w demo 1 demoBodies demoLengths .after) 1 (replicate 5 255) start ≡ done ∷ [] → ⊥
+  no-losing-all r reads h = let e = sym (writer-heard w meets r reads) ∙ h in never (cc)
+
+  pub no-losing-the-rest : (r : Reader) → Meets plain r → (body : List ℕ)
+      → followed 3 r (w demo 1 demoBodies demoLengths .after) 1 (replicate 5 255) start ≡ told body ∷ done ∷ [] → ⊥
+  no-losing-the-rest r reads body h = let e = sym (writer-heard w meets r reads) ∙ h in never (cc)
