@@ -2,12 +2,12 @@
  * Galzeranta: exchange diskettes of GOST 28081-89 as files. The library's C side.
  *
  * Link libgalzeranta.a ('rt staticlib galzeranta'; x86-64, System V calls). This header includes nothing and asks for no C library, so that a kernel
- * module takes it as it is: galz_u8 and galz_u64 are the types that kernels know as u8 and u64. The archive wants memset; it uses SSE registers and the
- * red zone, which a kernel has to allow around a call.
+ * module takes it as it is: galz_u8, galz_u32 and galz_u64 are the types that kernels know as u8, u32 and u64. The archive wants memset; it uses SSE
+ * registers and the red zone, which a kernel has to allow around a call.
  *
  * A slice is a pointer and the count of its elements. Every call takes any bytes, of any length, and any numbers: nothing has to be tested first, and
  * nothing is kept after the call. A pointer of a slice is never NULL, not even where the count is 0. No call here changes a byte that it is lent, but
- * for 'out' of galz_read and galz_salvage, which no other slice of the call may overlap.
+ * for 'out' of galz_read and galz_salvage and the image of galz_write, which no other slice of the call may overlap.
  *
  * Every call returns one number. Its top byte is the code: 0 if it was done, 1 to 127 the number of the refusal; reading and salvage have 128 for a gap
  * and 129 for the file's end, which are no refusals. What stands in the 56 bits below depends on the code and the call; the functions at the end take it
@@ -21,9 +21,11 @@ extern "C" {
 #endif
 
 typedef unsigned char galz_u8;
+typedef unsigned int galz_u32;
 typedef unsigned long long galz_u64;
 
 /* a compiler whose types are of other sizes stops here */
+typedef char galz_u32_has_4_bytes[sizeof(galz_u32) == 4 ? 1 : -1];
 typedef char galz_u64_has_8_bytes[sizeof(galz_u64) == 8 ? 1 : -1];
 
 /*
@@ -84,6 +86,20 @@ galz_u64 galz_salvage(const galz_u8 *image, galz_u64 image_length, galz_u64 slot
 		      galz_u64 out_length);
 
 /*
+ * Writing a file in a slot: all of its records, in place of those that it has. 'bodies' is every body, one right behind the other; 'lengths' says how long
+ * each is, in the same order, so it has as many elements as there are records. A list without records is written too and leaves a file without blocks.
+ *
+ * Done: the number of blocks written (galz_number). The records fill the blocks from the first on, packed by the format of the label. Of the image only this
+ * changes: the physical records of those blocks, each as a whole, its kind now that of the valid data mark (a record whose check had failed is thereby
+ * good again) and its body data with 00 behind; and two fields of the label, the unused count U (positions 58-62, spaces for 0) and the data end (75-79).
+ * Defective records are passed over, and records of the extent behind the last block written stay as they were.
+ *
+ * Refused: 1 to 17 and 24 to 27, in the order 1 to 16, 24, 17, 25, 26, 27. A refusal has changed no byte. A file that is refused 18 may be written.
+ */
+galz_u64 galz_write(galz_u8 *image, galz_u64 image_length, galz_u64 slot, const galz_u8 *bodies, galz_u64 bodies_length, const galz_u32 *lengths,
+		    galz_u64 lengths_count);
+
+/*
  * The refusals, with what galz_first gives (and galz_second, for 10 and 21). A place that is not named is 0.
  *
  *    1  the image is below 903 bytes
@@ -109,6 +125,12 @@ galz_u64 galz_salvage(const galz_u8 *image, galz_u64 image_length, galz_u64 slot
  *   21  a rule of the content is broken                             the block; second, the offset where record, segment or rest begins
  *   22  the file ends within a spanned record
  *   23  'out' is too small                                          the length needed
+ *   24  HDR1 43 is P                                                the slot
+ *   25  the lengths do not sum to the bytes of 'bodies'
+ *   26  a length that the label does not allow                      the first such record, from 0
+ *   27  more blocks needed than the extent holds                    the blocks needed; 2^32-1 if they are more than that
+ *
+ * 26: in F a length that is not R; in V one that is over R with 4 added; in S one over R, unless R is 0000, and any but 0 where B is 5.
  */
 
 /* so many bits of a number, from a bit on */
@@ -142,7 +164,7 @@ static inline unsigned galz_defect_2(galz_u64 answer) { return (unsigned)galz_bi
 static inline galz_u64 galz_slot(galz_u64 answer) { return galz_bits(answer, 24, 32); }
 static inline galz_u64 galz_offset(galz_u64 answer) { return galz_bits(answer, 0, 24); }
 
-/* galz_count, galz_free: the number */
+/* galz_count, galz_free, galz_write: the number */
 static inline galz_u64 galz_number(galz_u64 answer) { return galz_bits(answer, 0, 56); }
 
 /* galz_read, galz_salvage: whether the answer is a gap (of galz_salvage alone), or End */

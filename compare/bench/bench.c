@@ -1,11 +1,13 @@
 /*
- * Calls JUDGE, READ, SALVAGE or PACE on the image in a file, so many times over, and prints a number made of all answers of the last time.
+ * Calls JUDGE, READ, SALVAGE, PACE or WRITE on the image in a file, so many times over, and prints a number made of all answers of the last time.
  *
  *   bench judge IMAGE TIMES
  *   bench read IMAGE TIMES PLACES       one time is a call at each place of the list ('compare walk'), on slot 1
  *   bench salvage IMAGE TIMES PLACES
  *   bench pace-read IMAGE TIMES         one time is the whole file in slot 1, opened once
  *   bench pace-salvage IMAGE TIMES
+ *   bench write IMAGE TIMES             one time is the file in slot 1 written, over what the time before left: a list without records
+ *   bench write IMAGE TIMES BODIES LENGTHS   the same with the bodies of a file and the lengths that the lines of another say
  */
 #include <stdint.h>
 #include <stdio.h>
@@ -16,6 +18,7 @@ uint64_t JUDGE(const uint8_t *image, uint64_t length);
 uint64_t READ(const uint8_t *image, uint64_t length, uint64_t slot, uint64_t block, uint64_t offset, uint64_t mark, uint8_t *out, uint64_t room);
 uint64_t SALVAGE(const uint8_t *image, uint64_t length, uint64_t slot, uint64_t block, uint64_t offset, uint64_t mark, uint8_t *out, uint64_t room);
 uint64_t PACE(const uint8_t *image, uint64_t length, uint64_t slot, uint64_t salvage, uint8_t *out, uint64_t room);
+uint64_t WRITE(uint8_t *image, uint64_t length, uint64_t slot, const uint8_t *bodies, uint64_t total, const uint32_t *lengths, uint64_t count);
 
 struct place {
     unsigned long long block, offset, mark;
@@ -25,12 +28,32 @@ static uint8_t image[6000000], out[6000000];
 static uint64_t length;
 static struct place places[100000];
 static size_t asked;
+static uint8_t bodies[6000000];
+static uint32_t lengths[2000000];
+static size_t total, records;
 
-static int load_image(const char *name) {
+static int load(const char *name, uint8_t *bytes, size_t most, size_t *count) {
     FILE *file = fopen(name, "rb");
     if (!file)
         return 0;
-    length = fread(image, 1, sizeof image, file);
+    *count = fread(bytes, 1, most, file);
+    return 1;
+}
+
+static int load_image(const char *name) {
+    size_t count = 0;
+    int loaded = load(name, image, sizeof image, &count);
+    length = count;
+    return loaded;
+}
+
+static int load_list(const char *of_bodies, const char *of_lengths) {
+    FILE *file = fopen(of_lengths, "r");
+    unsigned record;
+    if (!file || !load(of_bodies, bodies, sizeof bodies, &total))
+        return 0;
+    while (records < sizeof lengths / sizeof *lengths && fscanf(file, "%u", &record) == 1)
+        lengths[records++] = record;
     return 1;
 }
 
@@ -91,9 +114,24 @@ static uint64_t walked(int salvaging, long times) {
     return all;
 }
 
+/* the answer of the last time, and what the image then is */
+static int write_over(int count, char **arguments) {
+    uint64_t answer = 0, all = 0xCBF29CE484222325u;
+    if (!load_image(arguments[2]) || (count == 6 && !load_list(arguments[4], arguments[5])))
+        return 1;
+    for (long times = atol(arguments[3]); times > 0; times--)
+        answer = WRITE(image, length, 1, bodies, total, lengths, records);
+    for (size_t i = 0; i < length; i++)
+        all = (all ^ image[i]) * 0x100000001B3u;
+    printf("%llx-%016llx\n", (unsigned long long)answer, (unsigned long long)all);
+    return 0;
+}
+
 int main(int count, char **arguments) {
     if (count < 4)
         return 2;
+    if (strcmp(arguments[1], "write") == 0)
+        return write_over(count, arguments);
     int judging = strcmp(arguments[1], "judge") == 0, pacing = strncmp(arguments[1], "pace-", 5) == 0;
     if (!load_image(arguments[2]) || (!judging && !pacing && (count != 5 || !load_places(arguments[4]))))
         return 1;

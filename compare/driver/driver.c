@@ -2,7 +2,8 @@
  * Calls the library's exports for the comparison: requests on standard input, an answer to each on standard output, till the input ends.
  *
  * A request: a byte, the call's number in the table below; four numbers; three lent byte strings, each a length and its bytes. What a call does not take
- * is 0 or empty. Numbers have 8 bytes, the lowest first. The first string is the image.
+ * is 0 or empty. Numbers have 8 bytes, the lowest first. The first string is the image. The lengths of a writing are the third string, numbers of 4
+ * bytes as the machine has them in memory, which for the archive's is the lowest byte first too.
  *
  * An answer: the number that the call returned; a byte that says what has changed of the lent bytes (1, 2, 4 for the strings; 128 if a byte before or
  * behind one; 64 if the parts that the header's functions give do not make the number again); then each string that has changed, as it is now.
@@ -32,6 +33,11 @@ static u64 call_count(struct lent *s, u64 *n) { return galz_count(s[0].bytes, s[
 static u64 call_free(struct lent *s, u64 *n) { (void)n; return galz_free(s[0].bytes, s[0].length); }
 static u64 call_read(struct lent *s, u64 *n) { return galz_read(s[0].bytes, s[0].length, n[0], n[1], n[2], n[3], s[1].bytes, s[1].length); }
 static u64 call_salvage(struct lent *s, u64 *n) { return galz_salvage(s[0].bytes, s[0].length, n[0], n[1], n[2], n[3], s[1].bytes, s[1].length); }
+static u64 call_write(struct lent *s, u64 *n)
+{
+	const galz_u32 *lengths = (const void *)s[2].bytes;
+	return galz_write(s[0].bytes, s[0].length, n[0], s[1].bytes, s[1].length, lengths, s[2].length / sizeof *lengths);
+}
 
 /* the number again, from the parts that the header's functions give */
 static u64 refusal_again(u64 a) { return (u64)galz_code(a) << 56 | galz_first(a) << 24 | galz_second(a) << 4 | galz_third(a); }
@@ -56,7 +62,7 @@ static const struct {
 	u64 (*call)(struct lent *, u64 *);
 	u64 (*again)(u64);
 } calls[] = { { call_judge, volume_again }, { call_find, found_again }, { call_count, number_again }, { call_free, number_again },
-	      { call_read, reading_again }, { call_salvage, reading_again } };
+	      { call_read, reading_again }, { call_salvage, reading_again }, { call_write, number_again } };
 
 /* all so many bytes: 1; the input ended before the first: 0; in the midst: -1 */
 static int take(void *to, u64 count)
@@ -91,7 +97,8 @@ static u64 number(const u8 *bytes)
 	return n;
 }
 
-/* Reads a string into room of its own. Images begin at any address, so the room is entered a little further on each time; strings of numbers keep theirs. */
+/* Reads a string into room of its own. Images begin at any address, so the room is entered a little further on each time; a string of numbers where they
+   may stand. */
 static int take_lent(struct lent *lent, u64 shift)
 {
 	u8 length[8];
@@ -167,7 +174,7 @@ static int serve(u64 turn)
 	for (int i = 0; i < NUMBERS; i++)
 		n[i] = number(numbers + 8 * i);
 	for (int i = 0; i < STRINGS; i++)
-		if (take_lent(&lent[i], i == 2 ? 0 : turn + (u64)i) != 1)
+		if (take_lent(&lent[i], i == 2 ? turn * sizeof(galz_u32) : turn + (u64)i) != 1)
 			return -1;
 	u64 returned = calls[call].call(lent, n);
 	u64 again = galz_refused(returned) ? refusal_again(returned) : calls[call].again(returned);

@@ -1,10 +1,12 @@
 //! Counts which refusals, answers, positions and shapes cases reach.
 
+use crate::account::List;
 use crate::label::{Entry, Format};
 use crate::make::build::Volume;
 use crate::make::fields::{ERMAP, HDR1, VOL1};
 use crate::make::file::FilePlan;
 use crate::make::Case;
+use crate::met;
 use crate::model::{answer, Answer, Call};
 use crate::packed::{code, refusal_of, END, GAP};
 use crate::reading::{watched, Event, Events, Place};
@@ -107,8 +109,8 @@ impl Cover {
         Cover { tables }
     }
 
-    /// What calls of reading and salvage alone reach.
-    pub fn of_readings() -> Cover {
+    /// What calls of reading, salvage and writing reach.
+    pub fn of_files() -> Cover {
         let files = ["defective records", "U > 0", "several records to a block"];
         let mut tables = vec![
             table(REFUSALS, 13..=23),
@@ -118,6 +120,8 @@ impl Cover {
         ];
         let shapes = shape_tables().into_iter();
         tables.extend(shapes.filter(|shape| [SIZES, FORMATS, BLOCKS].contains(&shape.0)));
+        let written = met::TABLES.iter();
+        tables.extend(written.map(|(title, rows)| table(title, rows.iter().copied())));
         Cover { tables }
     }
 
@@ -140,28 +144,40 @@ impl Cover {
         given
     }
 
-    /// Counts a call of reading or salvage and its answer.
-    pub fn count_reading(&mut self, image: &[u8], call: &Call, given: &Answer) {
+    /// Counts a call of reading or salvage, the number that it returned and
+    /// the output afterwards.
+    pub fn count_reading(&mut self, image: &[u8], call: &Call, packed: u64, out: &[u8]) {
         #[rustfmt::skip]
         let (slot, block, offset, mark, salvaging) = match call {
             Call::Read { slot, block, offset, mark, .. } => (slot, block, offset, mark, false),
             Call::Salvage { slot, block, offset, mark, .. } => (slot, block, offset, mark, true),
             _ => return,
         };
-        self.count_refusal(given.packed);
-        self.count_done(call, given);
+        self.count_refusal(packed);
+        self.count_answer(call, packed);
         let place = Place {
             block: *block,
             offset: *offset,
             mark: *mark != 0,
         };
         let events = Events::default();
-        let mut out = given.out.clone();
+        let mut out = out.to_vec();
         let _ = watched(image, *slot, place, &mut out, salvaging, &events);
         for (event, name) in Event::ALL {
             if events.has(event) {
                 self.reach(MET, name);
             }
+        }
+    }
+
+    /// Counts a call of writing, the number that it returned and the image
+    /// afterwards.
+    pub fn count_writing(&mut self, case: &Case, packed: u64, after: &[u8]) {
+        let Some(list) = List::of(&case.call) else {
+            return;
+        };
+        for (title, row) in met::facts(&case.image, &list, packed, after) {
+            self.reach(title, &row);
         }
     }
 
@@ -200,8 +216,14 @@ impl Cover {
     }
 
     fn count_done(&mut self, call: &Call, given: &Answer) {
-        let code = code(given.packed);
-        match (call, code) {
+        self.count_answer(call, given.packed);
+        if *call == Call::Listing {
+            self.count_listing(&given.out);
+        }
+    }
+
+    fn count_answer(&mut self, call: &Call, packed: u64) {
+        match (call, code(packed)) {
             (Call::Judge, 0) => self.reach(DONE, "judge"),
             (Call::Find { .. }, 0) => self.reach(DONE, "find"),
             (Call::Count { .. }, 0) => self.reach(DONE, "count"),
@@ -217,7 +239,6 @@ impl Cover {
             (Call::Salvage { .. }, 0) => self.reach(READINGS, "salvage record"),
             (Call::Salvage { .. }, GAP) => self.reach(READINGS, "salvage gap"),
             (Call::Salvage { .. }, END) => self.reach(READINGS, "salvage End"),
-            (Call::Listing, _) => self.count_listing(&given.out),
             _ => {}
         }
     }
@@ -295,7 +316,7 @@ impl Cover {
         for (title, rows) in &self.tables {
             text.push_str(&format!("{title}\n"));
             for (key, count) in rows {
-                text.push_str(&format!("  {key:<30} {count:>8}\n"));
+                text.push_str(&format!("  {key:<46} {count:>8}\n"));
             }
         }
         text

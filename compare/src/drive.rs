@@ -34,26 +34,45 @@ pub struct Outcome {
 
 /// The request of a call that the driver knows.
 fn request(image: &[u8], call: &Call) -> Option<Request> {
-    let (number, numbers, second) = match call {
-        Call::Judge => (0, [0; 4], Vec::new()),
-        Call::Find { name } => (1, [0; 4], name.clone()),
-        Call::Count { slot } => (2, [*slot, 0, 0, 0], Vec::new()),
-        Call::Free => (3, [0; 4], Vec::new()),
+    let (number, numbers, second, third) = match call {
+        Call::Judge => (0, [0; 4], Vec::new(), Vec::new()),
+        Call::Find { name } => (1, [0; 4], name.clone(), Vec::new()),
+        Call::Count { slot } => (2, [*slot, 0, 0, 0], Vec::new(), Vec::new()),
+        Call::Free => (3, [0; 4], Vec::new(), Vec::new()),
         #[rustfmt::skip]
         Call::Read { slot, block, offset, mark, out } => {
-            (4, [*slot, *block, *offset, *mark], out.clone())
+            (4, [*slot, *block, *offset, *mark], out.clone(), Vec::new())
         },
         #[rustfmt::skip]
         Call::Salvage { slot, block, offset, mark, out } => {
-            (5, [*slot, *block, *offset, *mark], out.clone())
+            (5, [*slot, *block, *offset, *mark], out.clone(), Vec::new())
         },
-        Call::Write { .. } | Call::Listing => return None,
+        #[rustfmt::skip]
+        Call::Write { slot, bodies, lengths } => {
+            (6, [*slot, 0, 0, 0], bodies.clone(), bytes_of(lengths))
+        },
+        Call::Listing => return None,
     };
     Some(Request {
         number,
         numbers,
-        lent: [image.to_vec(), second, Vec::new()],
+        lent: [image.to_vec(), second, third],
     })
+}
+
+/// Lengths as they are lent, the lowest byte of each first.
+fn bytes_of(lengths: &[u32]) -> Vec<u8> {
+    lengths
+        .iter()
+        .flat_map(|length| length.to_le_bytes())
+        .collect()
+}
+
+fn lengths_of(bytes: &[u8]) -> Vec<u32> {
+    bytes
+        .chunks_exact(4)
+        .map(|length| u32::from_le_bytes([length[0], length[1], length[2], length[3]]))
+        .collect()
 }
 
 pub fn knows(call: &Call) -> bool {
@@ -181,6 +200,11 @@ impl Request {
             4 => Call::Read { slot, block, offset, mark, out },
             #[rustfmt::skip]
             5 => Call::Salvage { slot, block, offset, mark, out },
+            6 => Call::Write {
+                slot,
+                bodies: self.lent[1].clone(),
+                lengths: lengths_of(&self.lent[2]),
+            },
             _ => return Err(io::Error::other("no such call")),
         })
     }
@@ -200,7 +224,7 @@ impl Request {
 
 /// Answers requests as a driver does, from the independent program, till the
 /// input ends. Every answer whose turn `wrong` divides is wrong, in turn in
-/// the number, in a lent byte, in a byte that was not lent and in the header.
+/// the number, in lent bytes, in a byte that was not lent and in the header.
 /// It serves the tests of the comparison itself.
 pub fn serve(input: &mut impl Read, output: &mut impl Write, wrong: usize) -> io::Result<()> {
     serve_by(input, output, wrong, expected)
@@ -228,13 +252,19 @@ pub fn serve_by(
     Ok(())
 }
 
-/// Makes an outcome wrong, in turn in four ways.
+/// Makes an outcome wrong, in turn in four ways; lent bytes all at once, so
+/// that some are if any were lent, else the number.
 fn spoil(outcome: &mut Outcome, turn: usize) {
+    let lent = outcome.lent.iter().any(|string| !string.is_empty());
     match turn % 4 {
-        0 => outcome.returned ^= 1,
         1 => outcome.around = true,
         2 => outcome.parts = true,
-        _ => outcome.lent[0].iter_mut().for_each(|byte| *byte = !*byte),
+        3 if lent => outcome
+            .lent
+            .iter_mut()
+            .flatten()
+            .for_each(|byte| *byte = !*byte),
+        _ => outcome.returned ^= 1,
     }
 }
 

@@ -1,14 +1,17 @@
 //! GOST 28081-89 exchange diskettes as files: the rules of document 01 stated
 //! once more, from its words alone, to be compared with the proved library.
 
+pub mod account;
 pub mod cover;
 pub mod drive;
+pub mod edges;
 pub mod file;
 pub mod follow;
 pub mod label;
 pub mod layout;
 pub mod listing;
 pub mod make;
+pub mod met;
 pub mod model;
 pub mod odd;
 pub mod options;
@@ -19,8 +22,10 @@ pub mod reading;
 pub mod refusal;
 pub mod session;
 pub mod text;
+pub mod unwritten;
 pub mod volume;
 pub mod writing;
+pub mod written;
 
 pub use file::{count, find, free, Found};
 pub use layout::Geometry;

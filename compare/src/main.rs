@@ -4,6 +4,7 @@ use compare::cover::cover;
 use compare::drive::serve;
 use compare::listing::{listing, MOST_BYTES};
 use compare::make::sample::{named, NAMES};
+use compare::make::sizes::to_write;
 use compare::options::{Options, SEED};
 use compare::properties::check;
 use compare::reading::{given, places};
@@ -21,6 +22,8 @@ compare walk read MOST                  writes how many places reading the file 
 compare walk salvage MOST               leads to, and at most so many of them, evenly taken: block, offset and mark
 compare given read                      writes how many answers reading that file gives before its end, and how many bytes of records
 compare given salvage                   the same of salvage
+compare bodies NAME                     writes the records that fill the file of a sample as write-F-100, joined
+compare lengths NAME                    writes the length of each of them, one to a line
 compare serve [--wrong N]               answers calls as the C driver does, every Nth wrongly
 compare --help                          shows this text
 ";
@@ -29,7 +32,7 @@ fn main() -> ExitCode {
     let arguments: Vec<String> = std::env::args().skip(1).collect();
     let words: Vec<&str> = arguments.iter().map(String::as_str).collect();
     match words.as_slice() {
-        ["listing"] => list(),
+        ["listing"] => show_listing(),
         ["sample", name] => sample(name),
         ["cover", options @ ..] => with_options(options, 20_000, show_cover),
         ["check", options @ ..] => with_options(options, 5_000, show_check),
@@ -37,6 +40,8 @@ fn main() -> ExitCode {
         ["walk", "salvage", most] => walk(true, most),
         ["given", "read"] => give(false),
         ["given", "salvage"] => give(true),
+        ["bodies", name] => list(name, |records| records.concat()),
+        ["lengths", name] => list(name, lengths),
         ["serve"] => serve_calls("0"),
         ["serve", "--wrong", every] => serve_calls(every),
         ["--help" | "-h" | "help"] => print(HELP.as_bytes()),
@@ -56,7 +61,7 @@ fn print(bytes: &[u8]) -> ExitCode {
     }
 }
 
-fn list() -> ExitCode {
+fn show_listing() -> ExitCode {
     let mut image = Vec::new();
     let most = MOST_BYTES as u64 + 1;
     match std::io::stdin().take(most).read_to_end(&mut image) {
@@ -101,6 +106,18 @@ fn give(salvaging: bool) -> ExitCode {
     }
     let (answers, bytes) = given(&image, 1, salvaging);
     print(format!("{answers} {bytes}\n").as_bytes())
+}
+
+fn list(name: &str, part: fn(&[Vec<u8>]) -> Vec<u8>) -> ExitCode {
+    match to_write(name) {
+        Some(made) => print(&part(&made.records)),
+        None => misused(),
+    }
+}
+
+fn lengths(records: &[Vec<u8>]) -> Vec<u8> {
+    let lines = records.iter().map(|record| format!("{}\n", record.len()));
+    lines.collect::<String>().into_bytes()
 }
 
 fn serve_calls(every: &str) -> ExitCode {

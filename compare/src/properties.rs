@@ -1,5 +1,6 @@
 //! Properties checked over many made cases.
 
+use crate::account::{self, Ground, List};
 use crate::file::count;
 use crate::layout::Geometry;
 use crate::make::build::{volume, Volume};
@@ -17,9 +18,11 @@ use crate::volume::{judge, label_in};
 type Property = (&'static str, fn(u64, usize, usize) -> Result<(), String>);
 
 /// Every property with its name.
-pub const PROPERTIES: [Property; 7] = [
+pub const PROPERTIES: [Property; 9] = [
     ("lent bytes stay", lent_bytes),
     ("read-back", read_back),
+    ("every write is accounted for", accounted),
+    ("a write minds no old contents", old_contents),
     ("salvage gives the survivors", survivors),
     ("plain reading stops at 20", up_to_lost),
     ("following never answers 19", following),
@@ -195,6 +198,66 @@ fn list_is_read(image: &[u8], slot: u64, bodies: &[u8], lengths: &[u32]) -> Resu
     }
     let ended = matches!(answers.last(), Some((Ok(Reading::End { .. }), _)));
     ensure(ended, || "no End".to_string())
+}
+
+/// A case of writing, of any of its families.
+fn write_case(seed: u64, index: usize, largest: usize) -> (Vec<u8>, Call) {
+    const FAMILIES: [fn(&mut Rng, usize) -> (Vec<u8>, Call); 6] = [
+        write_cases::write_some,
+        write_cases::write_full,
+        write_cases::write_empty,
+        write_cases::write_sums,
+        write_cases::write_lengths,
+        write_cases::write_refused,
+    ];
+    let mut rng = Rng::for_case(seed ^ 0xE, index as u64);
+    FAMILIES[index % FAMILIES.len()](&mut rng, largest)
+}
+
+/// The account of a write, which is none of `writing`, names the same blocks,
+/// the same bytes and the same refusal of a list.
+fn accounted(seed: u64, index: usize, largest: usize) -> Result<(), String> {
+    let (image, call) = write_case(seed, index, largest);
+    let given = answer(&image, &call);
+    match List::of(&call) {
+        Some(list) => account::holds(&image, &given.image, &list, given.packed),
+        None => Ok(()),
+    }
+}
+
+/// What stood in good records, their marks, U and the data end play no part:
+/// the blocks and the label come out the same.
+fn old_contents(seed: u64, index: usize, largest: usize) -> Result<(), String> {
+    let (image, call) = write_case(seed, index, largest);
+    let Some(ground) = List::of(&call).and_then(|list| Ground::of(&image, list.slot)) else {
+        return Ok(());
+    };
+    let mut rng = Rng::for_case(seed ^ 0xE1, index as u64);
+    let mut other = image.clone();
+    for &record in &ground.good {
+        let at = ground.extent[record].1;
+        other[at] = ground.geometry.k + rng.pick(&[0, 32]);
+        let bytes = rng.telling_bytes(ground.geometry.p());
+        other[at + 1..=at + ground.geometry.p()].copy_from_slice(&bytes);
+    }
+    let start = other[ground.label + 28..ground.label + 33].to_vec();
+    other[ground.label + 74..ground.label + 79].copy_from_slice(&start);
+    other[ground.label + 57..ground.label + 62].fill(b' ');
+    let (one, two) = (answer(&image, &call), answer(&other, &call));
+    ensure(one.packed == two.packed, || "answers differ".to_string())?;
+    if code(one.packed) != 0 {
+        return Ok(());
+    }
+    let label = ground.label..ground.label + 128;
+    let sectors = ground.taken(one.packed as usize).iter().map(|&record| {
+        let at = ground.extent[record].1;
+        at..at + 1 + ground.geometry.p()
+    });
+    for part in sectors.chain([label]) {
+        let same = one.image[part.clone()] == two.image[part.clone()];
+        ensure(same, || format!("bytes {part:?} differ"))?;
+    }
+    Ok(())
 }
 
 /// A file that reads whole, then some of its sectors lost.

@@ -4,7 +4,7 @@
 use crate::cover::Cover;
 use crate::drive::{expected, knows, Driver, Outcome};
 use crate::make::Case;
-use crate::model::{Answer, Call};
+use crate::model::Call;
 use crate::options::SHOWN;
 use crate::packed::in_words;
 use std::io;
@@ -29,7 +29,7 @@ impl Session {
             number: 0,
             passed: 0,
             failed: 0,
-            cover: Cover::of_readings(),
+            cover: Cover::of_files(),
         })
     }
 
@@ -50,6 +50,12 @@ impl Session {
     /// Compares the answers to a case. The number that the library returned,
     /// if it is the right one and every byte is as it should be.
     pub fn compare(&mut self, case: &Case) -> io::Result<Option<u64>> {
+        let alike = self.compare_whole(case)?;
+        Ok(alike.map(|outcome| outcome.returned))
+    }
+
+    /// The same with every lent byte afterwards.
+    pub fn compare_whole(&mut self, case: &Case) -> io::Result<Option<Outcome>> {
         let Some(right) = expected(&case.image, &case.call) else {
             return Ok(None);
         };
@@ -67,8 +73,8 @@ impl Session {
         };
         if right == is {
             self.passed += 1;
-            self.count(case, is);
-            return Ok(Some(right.returned));
+            self.count(case, &is);
+            return Ok(Some(is));
         }
         self.failed += 1;
         if self.failed <= SHOWN {
@@ -79,6 +85,18 @@ impl Session {
         Ok(None)
     }
 
+    /// What has to hold of answers in which both programs were alike. It
+    /// counts only where it does not hold.
+    pub fn demand(&mut self, case: &Case, held: Result<(), String>) {
+        let Err(why) = held else { return };
+        self.failed += 1;
+        if self.failed <= SHOWN {
+            let (seed, stage, number) = (self.seed, self.stage, self.number);
+            println!("NOT HELD: seed {seed}, before {stage} {number}: {why}");
+            println!("  {}", told(case));
+        }
+    }
+
     /// Compares every case that the driver knows the call of.
     pub fn compare_all(&mut self, cases: impl Iterator<Item = Case>) -> io::Result<()> {
         for case in cases.filter(|case| knows(&case.call)) {
@@ -87,14 +105,15 @@ impl Session {
         Ok(())
     }
 
-    fn count(&mut self, case: &Case, outcome: Outcome) {
-        let [image, out, _] = outcome.lent;
-        let answer = Answer {
-            packed: outcome.returned,
-            image,
-            out,
-        };
-        self.cover.count_reading(&case.image, &case.call, &answer);
+    fn count(&mut self, case: &Case, outcome: &Outcome) {
+        let [image, out, _] = &outcome.lent;
+        if let Call::Write { .. } = case.call {
+            self.cover.count_writing(case, outcome.returned, image);
+        } else {
+            let call = &case.call;
+            self.cover
+                .count_reading(&case.image, call, outcome.returned, out);
+        }
     }
 
     /// How many comparisons passed and failed so far.
@@ -119,11 +138,18 @@ impl Session {
     }
 }
 
-/// A case in words.
+/// How much of a call is printed.
+const MOST_TOLD: usize = 1_500;
+
+/// A case in words; the first ones of a long list.
 fn told(case: &Case) -> String {
+    let mut call = format!("{:?}", case.call);
+    if call.len() > MOST_TOLD {
+        call.truncate(MOST_TOLD);
+        call += "..";
+    }
     format!(
-        "{:?} of {} bytes, family {}",
-        case.call,
+        "{call} of {} bytes, family {}",
         case.image.len(),
         case.family
     )
@@ -141,10 +167,16 @@ fn said(outcome: &Outcome, right: &Outcome, case: &Case) -> String {
     if outcome.lent[0] != case.image {
         text += "; the image changed";
     }
-    if let Some(at) = (0..right.lent[1].len()).find(|&at| outcome.lent[1][at] != right.lent[1][at])
-    {
-        let (is, should) = (outcome.lent[1][at], right.lent[1][at]);
-        text += &format!("; byte {at} of the output is {is:02x}, not {should:02x}");
+    let names = match case.call {
+        Call::Write { .. } => ["image", "bodies", "lengths"],
+        _ => ["image", "output", "third string"],
+    };
+    for ((is, should), name) in outcome.lent.iter().zip(&right.lent).zip(names) {
+        let other = is.iter().zip(should).position(|(is, should)| is != should);
+        if let Some(at) = other {
+            let (is, should) = (is[at], should[at]);
+            text += &format!("; byte {at} of the {name} is {is:02x}, not {should:02x}");
+        }
     }
     if outcome.parts {
         text += "; the header takes it apart wrongly";

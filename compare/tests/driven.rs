@@ -31,9 +31,22 @@ fn the_program_itself_behind_a_pipe_differs_nowhere() {
     assert!(text.ends_with(" passed, 0 failed\n"));
     assert!(!text.contains("DIFFERENT"));
     for stage in [
-        "followed", "salvaged", "broken", "segments", "places", "large",
+        "followed",
+        "salvaged",
+        "broken",
+        "segments",
+        "places",
+        "large",
+        "lengths",
+        "extents",
+        "shapes",
+        "rewritten",
+        "unwritten",
+        "written large",
     ] {
-        let line = text.lines().find(|line| line.starts_with(stage));
+        let line = text
+            .lines()
+            .find(|line| line.starts_with(&format!("{stage}: ")) && line.contains(" alike"));
         assert!(line.is_some_and(|line| line.ends_with(" alike, 0 different")));
     }
 }
@@ -54,7 +67,7 @@ fn every_wrong_answer_is_found_and_told() {
     assert_eq!(output.status.code(), Some(1));
     let text = text(&output);
     assert_eq!(text.matches("DIFFERENT: seed 28081, ").count(), 10);
-    assert!(text.contains("; the image changed\n"));
+    assert!(text.contains("; the image changed; byte 0 of the image is "));
     assert!(text.contains("; bytes that were not lent changed\n"));
     assert!(text.contains("; the header takes it apart wrongly\n"));
     let tally = text.lines().last().expect("a tally");

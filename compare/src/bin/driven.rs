@@ -7,7 +7,7 @@ use compare::make::sample::{named, NAMES};
 use compare::make::{bad::bad, cases, counted, Case};
 use compare::options::{Options, SEED};
 use compare::session::Session;
-use compare::{follow, judge, odd, Call};
+use compare::{edges, follow, judge, odd, unwritten, written, Call};
 use std::io;
 use std::process::ExitCode;
 
@@ -22,8 +22,13 @@ Runs the driver by COMMAND and compares with it
   byte of its VOL1 and ERMAP sectors;
 - whole files, plainly and in salvage, by following the places that the library gives: of N/2 sound volumes, of N/4 with
   lost blocks, of N/2 with broken content or refused, of N/8 with control words in any order;
-- places that no reading leads to, in N/40 small volumes; places of the largest volumes.
-What calls of reading and salvage have reached is printed; all of the table has to be. The last line is
+- places that no reading leads to, in N/40 small volumes; places of the largest volumes;
+- writes: of every two lengths about the bounds of a block, on every extent of a small volume, of every format on volumes
+  counted out, on N/8 drawn volumes, on the largest ones, each by several lists, one over the other; behind each that is
+  done every byte of the image is accounted for, the file is read back, all other files are read, judgement, free records
+  and names are asked again; of long files some records;
+- refused writes: each refusal, every set of them at once, wrong sums and lengths, N/2 drawn writes, N/8 bad images.
+What calls of reading, salvage and writing have reached is printed; all of the table has to be. The last line is
 'N passed, M failed'.
 ";
 
@@ -56,7 +61,10 @@ fn main() -> ExitCode {
 fn run(options: &Options) -> io::Result<(usize, usize)> {
     let mut session = Session::start(&options.command, options.number("seed"))?;
     // A driver that answers no more was told of and counted.
-    match volumes(&mut session, options).and_then(|()| files(&mut session, options)) {
+    let all = volumes(&mut session, options)
+        .and_then(|()| files(&mut session, options))
+        .and_then(|()| writes(&mut session, options));
+    match all {
         Ok(()) => session.end(),
         Err(_) => Ok(session.tally()),
     }
@@ -90,6 +98,22 @@ fn files(session: &mut Session, options: &Options) -> io::Result<()> {
     session.stage("segments", |on| follow::ordered_anyhow(on, seed, count / 8))?;
     session.stage("places", |on| odd::places(on, seed, count / 40))?;
     session.stage("large", odd::large)
+}
+
+/// Files that are written, read and written again.
+fn writes(session: &mut Session, options: &Options) -> io::Result<()> {
+    let (seed, count) = (options.number("seed"), options.count("count"));
+    let largest = options.count("largest");
+    session.stage("lengths", edges::lengths)?;
+    session.stage("extents", edges::extents)?;
+    session.stage("shapes", |on| written::shapes(on, seed))?;
+    session.stage("rewritten", |on| {
+        written::rewritten(on, seed, count / 8, largest)
+    })?;
+    session.stage("unwritten", |on| {
+        unwritten::all(on, seed, count / 2, largest)
+    })?;
+    session.stage("written large", edges::large)
 }
 
 fn samples() -> impl Iterator<Item = Case> {

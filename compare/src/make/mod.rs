@@ -8,6 +8,8 @@ pub mod content_cases;
 pub mod fields;
 pub mod file;
 pub mod file_cases;
+pub mod grounds;
+pub mod lists;
 pub mod pack;
 pub mod places;
 pub mod read_cases;

@@ -4,7 +4,8 @@ use super::sample::{hdr1, Plain};
 use super::tables::{record_length, table, Edits, Table};
 use crate::model::Call;
 
-fn file(format: &[u8; 1], b: usize, r: &[u8; 4], blocking: &[u8; 1]) -> Plain {
+/// A small volume of one file of level 2 on seven records.
+pub fn with_seven(format: &[u8; 1], b: usize, r: &[u8; 4], blocking: &[u8; 1]) -> Plain {
     let mut plain = Plain::new(1, 8, 7, 0, 1);
     plain.put_label(1, &hdr1("FILE", b, "01001", "01007"));
     plain.set(1, 44, b"2");
@@ -16,7 +17,7 @@ fn file(format: &[u8; 1], b: usize, r: &[u8; 4], blocking: &[u8; 1]) -> Plain {
 
 /// A file with blocks as given, each on one record.
 fn with_blocks(format: &[u8; 1], blocking: &[u8; 1], u: &[u8; 5], blocks: &[&[u8]]) -> Plain {
-    let mut plain = file(format, 20, b"    ", blocking);
+    let mut plain = with_seven(format, 20, b"    ", blocking);
     for (number, block) in blocks.iter().enumerate() {
         plain.set_body(&format!("0100{}", number + 1), block);
     }
@@ -147,7 +148,7 @@ fn other_files() -> [Plain; 5] {
 
 /// Writes of two and three records of every length up to a bound.
 fn every_write(format: &[u8; 1], b: usize, r: &[u8; 4], blocking: &[u8; 1]) -> Table {
-    let plain = file(format, b, r, blocking);
+    let plain = with_seven(format, b, r, blocking);
     let mut rows = Vec::new();
     let mut add = |lengths: Vec<u32>| {
         let bodies = lengths.iter().zip(b'a'..);

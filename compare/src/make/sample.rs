@@ -1,7 +1,7 @@
 //! Volumes made by hand: the sample of document 01's listing and a few more.
 
 use super::build::plain_geometry;
-use super::sizes::{largest, read_sample, smallest, typical};
+use super::sizes::{largest, read_sample, smallest, to_write, typical};
 use crate::layout::{Geometry, INDEX_SECTOR};
 use crate::text::address;
 use crate::writing::write;
@@ -74,6 +74,14 @@ impl Plain {
     pub fn set(&mut self, slot: usize, position: usize, bytes: &[u8]) {
         let label = Geometry::index_body_mut(&mut self.image, Geometry::slot_ordinal(slot));
         label[position - 1..position - 1 + bytes.len()].copy_from_slice(bytes);
+    }
+
+    /// Bytes that are no space wherever a label is not judged, so that each
+    /// one that stays is seen to.
+    pub fn soil_label(&mut self, slot: usize) {
+        for position in [5, 28, 34, 65, 66, 74].into_iter().chain(80..=128) {
+            self.set(slot, position, &[0x80 | position as u8]);
+        }
     }
 
     /// Where the kind of the record at an address stands.
@@ -209,6 +217,6 @@ pub fn named(name: &str) -> Option<Vec<u8>> {
         "largest" => largest(45),
         "largest-one" => largest(1),
         "largest-none" => largest(0),
-        _ => return read_sample(name),
+        _ => return read_sample(name).or_else(|| to_write(name).map(|made| made.image)),
     })
 }

@@ -1,5 +1,6 @@
 //! Volumes for measuring: of three sizes with as many labels as wanted, to be
-//! judged; with one full file, to be read.
+//! judged; with one full file, to be read; with one file to be written, and
+//! lists that fill it.
 
 use super::pack::{pack, Shape as Packing};
 use super::rng::Rng;
@@ -132,9 +133,14 @@ fn bodies(format: u8, capacity: usize) -> Vec<Vec<u8>> {
         .collect()
 }
 
-/// One blocked file, in slot 1, of `F`, `V` or `S` on so many sectors, full;
-/// the middle one of them defective, or none.
-fn with_one_file(format: u8, sectors: usize, defect: bool) -> Option<Plain> {
+/// One blocked file, in slot 1, of `F`, `V` or `S` on so many sectors, some
+/// of them defective, and nothing written yet; 54-57 as given.
+fn with_one_label(
+    format: u8,
+    sectors: usize,
+    record: &[u8; 4],
+    defective: impl Fn(usize) -> bool,
+) -> Option<Plain> {
     let (l, i, d, s) = room(sectors)?;
     let mut plain = Plain::new(l, i, d, 1, s);
     let digits = address_digits(sectors - 1, &plain.geometry);
@@ -142,20 +148,25 @@ fn with_one_file(format: u8, sectors: usize, defect: bool) -> Option<Plain> {
     plain.put_label(1, &hdr1("READ", READ_BLOCK, "01001", &end));
     plain.set(1, 40, &[format]);
     plain.set(1, 44, b"2");
-    let record: &[u8] = match format {
+    plain.set(1, 54, record);
+    plain.set(1, 63, b"B");
+    for place in (0..sectors).filter(|&place| defective(place)) {
+        let kind = plain.geometry.kind_at(plain.geometry.record_ordinal(place));
+        plain.image[kind] = 16 + plain.geometry.k;
+        plain.image[kind + 1] = b'F';
+    }
+    Some(plain)
+}
+
+/// The same, full; the middle one of its records defective, or none.
+fn with_one_file(format: u8, sectors: usize, defect: bool) -> Option<Plain> {
+    let record = match format {
         b'F' => b"0080",
         b'V' => b"    ",
         _ => b"0000",
     };
-    plain.set(1, 54, record);
-    plain.set(1, 63, b"B");
-    if defect {
-        let kind = plain
-            .geometry
-            .kind_at(plain.geometry.record_ordinal(sectors / 2));
-        plain.image[kind] = 16 + plain.geometry.k;
-        plain.image[kind + 1] = b'F';
-    }
+    let middle = |place| defect && place == sectors / 2;
+    let mut plain = with_one_label(format, sectors, record, middle)?;
     let good = sectors - usize::from(defect);
     let bodies = bodies(format, good * 256 / READ_BLOCK);
     let lengths: Vec<u32> = bodies.iter().map(|body| body.len() as u32).collect();
@@ -185,6 +196,64 @@ pub fn read_sample(name: &str) -> Option<Vec<u8>> {
         _ => return None,
     }
     Some(plain.image)
+}
+
+/// A volume with one file to be written, and the records that fill it.
+pub struct ToWrite {
+    pub image: Vec<u8>,
+    pub records: Vec<Vec<u8>>,
+}
+
+/// Names as `write-F-100`: the volume of `F-100`, its file without a block, and
+/// records of 80 bytes in F, of 60 to 100 in V and S; `write-V-100-short`, with
+/// records of 4 bytes in F, of 1 to 4 in V and S; and `write-S-100-defect`, with
+/// every tenth record of the extent defective.
+pub fn to_write(name: &str) -> Option<ToWrite> {
+    let mut words = name.strip_prefix("write-")?.split('-');
+    let format = *words.next()?.as_bytes().first()?;
+    let sectors: usize = words.next()?.parse().ok()?;
+    let (more, end) = (words.next(), words.next());
+    let (short, defect) = match (more, end) {
+        (None, None) => (false, false),
+        (Some("short"), None) => (true, false),
+        (Some("defect"), None) => (false, true),
+        _ => return None,
+    };
+    let (record, r, least, most): (&[u8; 4], usize, usize, usize) = match (format, short) {
+        (b'F', false) => (b"0080", 80, 80, 80),
+        (b'F', true) => (b"0004", 4, 4, 4),
+        (b'V', false) => (b"    ", READ_BLOCK, 60, 100),
+        (b'V', true) => (b"    ", READ_BLOCK, 1, 4),
+        (b'S', false) => (b"0000", 0, 60, 100),
+        (b'S', true) => (b"0000", 0, 1, 4),
+        _ => return None,
+    };
+    let plain = with_one_label(format, sectors, record, |n| defect && n % 10 == 5)?;
+    let good = sectors - if defect { sectors / 10 } else { 0 };
+    let shape = Packing {
+        format,
+        blocked: true,
+        b: READ_BLOCK,
+        r,
+        capacity: good * 256 / READ_BLOCK,
+    };
+    Some(ToWrite {
+        image: plain.image,
+        records: records_of(&shape, least, most),
+    })
+}
+
+/// Records of lengths between two bounds, as many as the blocks hold.
+fn records_of(shape: &Packing, least: usize, most: usize) -> Vec<Vec<u8>> {
+    let mut rng = Rng::new(28_081);
+    let drawn: Vec<Vec<u8>> = (0..shape.capacity * shape.b / least + 1)
+        .map(|_| {
+            let length = rng.between(least, most);
+            vec![rng.between(b'A' as usize, b'Z' as usize) as u8; length]
+        })
+        .collect();
+    let kept = pack(shape, &drawn).records.into_iter();
+    kept.map(|record| record.body).collect()
 }
 
 /// The largest volume of a size of P with one file on all of it: its format,

@@ -1,7 +1,7 @@
 //! The independent program's calls as C functions of the same form as the
 //! library's, so that one driver measures both.
 
-use compare::{packed, reading, volume, Place};
+use compare::{packed, reading, volume, writing, Place};
 use std::slice::{from_raw_parts, from_raw_parts_mut};
 
 /// # Safety
@@ -79,4 +79,23 @@ pub unsafe extern "C" fn rust_pace(
         Ok(opened) => opened.answers(salvage != 0, out, 1 << 20),
         Err(_) => 0,
     }
+}
+
+/// # Safety
+/// `image` points to `length` bytes, `bodies` to `total` and `lengths` to
+/// `count` others that nothing changes meanwhile.
+#[no_mangle]
+pub unsafe extern "C" fn rust_write(
+    image: *mut u8,
+    length: u64,
+    slot: u64,
+    bodies: *const u8,
+    total: u64,
+    lengths: *const u32,
+    count: u64,
+) -> u64 {
+    let image = from_raw_parts_mut(image, length as usize);
+    let bodies = from_raw_parts(bodies, total as usize);
+    let lengths = from_raw_parts(lengths, count as usize);
+    packed::number(&writing::write(image, slot, bodies, lengths))
 }
