@@ -97,7 +97,7 @@ galz_u64 galz_salvage(const galz_u8 *image, galz_u64 image_length, galz_u64 slot
  * Refused: 1 to 17 and 24 to 27, in the order 1 to 16, 24, 17, 25, 26, 27. A refusal has changed no byte. A file that is refused 18 may be written.
  */
 galz_u64 galz_write(galz_u8 *image, galz_u64 image_length, galz_u64 slot, const galz_u8 *bodies, galz_u64 bodies_length, const galz_u32 *lengths,
-		    galz_u64 lengths_count);
+		    galz_u64 count);
 
 /*
  * The refusals, with what galz_first gives (and galz_second, for 10 and 21). A place that is not named is 0.

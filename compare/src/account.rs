@@ -160,18 +160,20 @@ impl Ground {
         })
     }
 
-    /// The records of the extent that so many blocks take.
+    /// The records of the extent that so many blocks take, as far as there
+    /// are so many.
     pub fn taken(&self, blocks: usize) -> &[usize] {
-        &self.good[..blocks * self.m]
+        let most = self.good.len();
+        &self.good[..blocks.saturating_mul(self.m).min(most)]
     }
 
     /// "start for 0 blocks; the first good record of the next block if a
     /// whole one is left; else the step past the extent's end."
     pub fn data_end(&self, blocks: usize) -> Address {
-        let used = blocks * self.m;
-        match blocks {
-            0 => self.extent[0].0,
-            _ if self.good.len() - used >= self.m => self.extent[self.good[used]].0,
+        let (used, next) = self.good.split_at(self.taken(blocks).len());
+        match next {
+            _ if used.is_empty() => self.extent[0].0,
+            [first, ..] if next.len() >= self.m => self.extent[*first].0,
             _ => self.past,
         }
     }

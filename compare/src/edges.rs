@@ -59,6 +59,13 @@ fn up_to(count: usize, length: usize) -> Vec<Vec<usize>> {
     (0..=count).map(|count| vec![length; count]).collect()
 }
 
+/// A file whose data end splits a block, which may be written all the same.
+fn split() -> Plain {
+    let mut plain = with_seven(b" ", 256, b"0064", b"B");
+    plain.set(1, 75, b"01002");
+    plain
+}
+
 /// One small file after another, each written over and over.
 pub fn lengths(session: &mut Session) -> io::Result<()> {
     let files = [
@@ -75,7 +82,7 @@ pub fn lengths(session: &mut Session) -> io::Result<()> {
         (with_seven(b"V", 12, b"    ", b" "), up_to(8, 5)),
         (with_seven(b"F", 12, b"0004", b"B"), up_to(23, 4)),
         (with_seven(b"F", 12, b"    ", b" "), up_to(9, 12)),
-        (with_seven(b" ", 256, b"0064", b"B"), up_to(14, 64)),
+        (split(), up_to(14, 64)),
     ];
     for (plain, lists) in files {
         let mut rng = Rng::new(lists.len() as u64);

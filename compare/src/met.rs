@@ -295,9 +295,12 @@ fn of_sums(list: &List) -> Vec<Fact> {
 
 fn of_lengths(ground: &Ground, list: &List, record: usize) -> Vec<Fact> {
     let lengths = list.lengths;
+    let Some(&wrong) = lengths.get(record) else {
+        return Vec::new();
+    };
     let last = lengths.len() - 1;
     let (format, r) = (ground.shape.format, ground.shape.r);
-    let short = (lengths[record] as usize) < r;
+    let short = (wrong as usize) < r;
     let of_five = format == b'S' && ground.shape.b == 5;
     let again = lengths[record + 1..].iter().any(|&l| ground.refuses(l));
     named(

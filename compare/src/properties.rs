@@ -7,6 +7,7 @@ use crate::make::build::{volume, Volume};
 use crate::make::file::{FilePlan, Want};
 use crate::make::read_cases::lose;
 use crate::make::rng::Rng;
+use crate::make::volume_cases::Made;
 use crate::make::{case, write_cases, Case};
 use crate::model::{answer, Answer, Call};
 use crate::packed::{code, refusal_of};
@@ -201,8 +202,8 @@ fn list_is_read(image: &[u8], slot: u64, bodies: &[u8], lengths: &[u32]) -> Resu
 }
 
 /// A case of writing, of any of its families.
-fn write_case(seed: u64, index: usize, largest: usize) -> (Vec<u8>, Call) {
-    const FAMILIES: [fn(&mut Rng, usize) -> (Vec<u8>, Call); 6] = [
+fn write_case(seed: u64, index: usize, largest: usize) -> Made {
+    const FAMILIES: [fn(&mut Rng, usize) -> Made; 6] = [
         write_cases::write_some,
         write_cases::write_full,
         write_cases::write_empty,

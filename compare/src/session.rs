@@ -1,6 +1,7 @@
 //! One run of the comparison over a driver: each call's answer beside the
 //! independent program's, what differs, and what was reached.
 
+use crate::account::{holds, List};
 use crate::cover::Cover;
 use crate::drive::{expected, knows, Driver, Outcome};
 use crate::make::Case;
@@ -48,7 +49,8 @@ impl Session {
     }
 
     /// Compares the answers to a case. The number that the library returned,
-    /// if it is the right one and every byte is as it should be.
+    /// if it is the right one and every byte is as it should be; of a write,
+    /// by its account too.
     pub fn compare(&mut self, case: &Case) -> io::Result<Option<u64>> {
         let alike = self.compare_whole(case)?;
         Ok(alike.map(|outcome| outcome.returned))
@@ -74,7 +76,8 @@ impl Session {
         if right == is {
             self.passed += 1;
             self.count(case, &is);
-            return Ok(Some(is));
+            let held = accounted(case, &is);
+            return Ok(self.demand(case, held).then_some(is));
         }
         self.failed += 1;
         if self.failed <= SHOWN {
@@ -85,16 +88,17 @@ impl Session {
         Ok(None)
     }
 
-    /// What has to hold of answers in which both programs were alike. It
-    /// counts only where it does not hold.
-    pub fn demand(&mut self, case: &Case, held: Result<(), String>) {
-        let Err(why) = held else { return };
+    /// What has to hold of answers in which both programs were alike, and
+    /// whether it does. It counts only where it does not.
+    pub fn demand(&mut self, case: &Case, held: Result<(), String>) -> bool {
+        let Err(why) = held else { return true };
         self.failed += 1;
         if self.failed <= SHOWN {
             let (seed, stage, number) = (self.seed, self.stage, self.number);
             println!("NOT HELD: seed {seed}, before {stage} {number}: {why}");
             println!("  {}", told(case));
         }
+        false
     }
 
     /// Compares every case that the driver knows the call of.
@@ -136,6 +140,13 @@ impl Session {
         }
         Ok((self.passed, failed))
     }
+}
+
+/// Whether a write left what the account of it says.
+fn accounted(case: &Case, outcome: &Outcome) -> Result<(), String> {
+    let list = List::of(&case.call);
+    let account = |list| holds(&case.image, &outcome.lent[0], &list, outcome.returned);
+    list.map_or(Ok(()), account)
 }
 
 /// How much of a call is printed.

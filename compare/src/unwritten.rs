@@ -13,7 +13,7 @@ use crate::session::Session;
 use crate::written::Writer;
 use std::io;
 
-/// One write on an image, with its account.
+/// One write on an image.
 fn refused(session: &mut Session, image: Vec<u8>, call: Call) -> io::Result<()> {
     let mut rng = Rng::new(image.len() as u64);
     Writer::new(session, &mut rng, "refused", image)
@@ -224,7 +224,7 @@ fn drawn(session: &mut Session, seed: u64, count: usize, largest: usize) -> io::
     for number in 0..count {
         let mut rng = Rng::for_case(seed ^ 0x19, number as u64);
         let (image, call) = FAMILIES[number % FAMILIES.len()](&mut rng, largest);
-        Writer::new(session, &mut rng, "drawn write", image).write(call)?;
+        Writer::new(session, &mut rng, "drawn write", image).write_and_read(call, 4)?;
     }
     Ok(())
 }
@@ -250,13 +250,13 @@ fn no_images(session: &mut Session, seed: u64, count: usize) -> io::Result<()> {
     Ok(())
 }
 
-/// All of it, with so many drawn writes and a fourth as many bad images.
+/// All of it, with so many drawn writes and half as many bad images.
 pub fn all(session: &mut Session, seed: u64, count: usize, largest: usize) -> io::Result<()> {
     volumes(session)?;
     slots(session)?;
     wrong_lengths(session)?;
     wrong_sums(session)?;
     sets(session)?;
-    no_images(session, seed, count / 4)?;
+    no_images(session, seed, count / 2)?;
     drawn(session, seed, count, largest)
 }

@@ -1,7 +1,7 @@
-//! Writes through the library: each is compared, then held against an account
-//! of every byte, then the file and all others are read through the library.
+//! Writes through the library: each is compared, and held against an account
+//! of every byte; then the file and all others are read through the library.
 
-use crate::account::{holds, Ground, List};
+use crate::account::{Ground, List};
 use crate::make::build::{volume, Volume};
 use crate::make::calls::{call_at, write_call};
 use crate::make::file::Want;
@@ -18,9 +18,10 @@ use crate::volume::{judge, label_in};
 use std::io;
 
 /// Longer files are asked for so many of their records only, and files beside
-/// the written one for fewer.
+/// the written one for fewer. All their records are read by the independent
+/// program.
 const MOST_READ: usize = 40;
-const MOST_READ_BESIDE: usize = 6;
+const MOST_READ_BESIDE: usize = 12;
 
 /// A volume on its way through writes.
 pub struct Writer<'a> {
@@ -80,21 +81,16 @@ impl<'a> Writer<'a> {
         }
     }
 
-    /// A write and its account; whether it was done, and rightly. The image
-    /// is then the written one.
+    /// A write; whether it was done, and rightly. The image is then the
+    /// written one.
     pub fn write(&mut self, call: Call) -> io::Result<bool> {
         self.case.call = call;
         let Some(outcome) = self.session.compare_whole(&self.case)? else {
             return Ok(false);
         };
         let [after, ..] = outcome.lent;
-        let list = List::of(&self.case.call);
-        let account = |list| holds(&self.case.image, &after, &list, outcome.returned);
-        let held = list.map_or(Ok(()), account);
-        let done = code(outcome.returned) == 0 && held.is_ok();
-        self.session.demand(&self.case, held);
         self.case.image = after;
-        Ok(done)
+        Ok(code(outcome.returned) == 0)
     }
 
     /// A write, and if it was done all that is asked behind it, of a long
@@ -109,10 +105,6 @@ impl<'a> Writer<'a> {
             self.others_read_as(&before, list.slot)?;
         }
         Ok(())
-    }
-
-    pub fn image(&self) -> &[u8] {
-        &self.case.image
     }
 
     /// What has to hold behind the last call.
@@ -184,9 +176,8 @@ impl<'a> Writer<'a> {
                 name: label[5..22].to_vec(),
             });
             if slot as u64 != written {
-                let other = self.readings_of(before, slot as u64);
                 calls.push(Call::Count { slot: slot as u64 });
-                calls.extend(other);
+                calls.extend(self.readings_of(before, slot as u64));
             }
         }
         for call in calls {
@@ -202,9 +193,12 @@ impl<'a> Writer<'a> {
         Ok(())
     }
 
-    /// Salvage of a file that is not written, from Start to End.
+    /// Calls that read a file that is not written, from Start to End. All
+    /// that it gives in salvage is as it was.
     fn readings_of(&mut self, before: &[u8], slot: u64) -> Vec<Call> {
         let (places, records) = walk(before, slot, true);
+        let same = walk(&self.case.image, slot, true) == (places.clone(), records.clone());
+        self.demand(same, || format!("slot {slot} was another before"));
         let numbers = some_of(self.rng, places.len(), MOST_READ_BESIDE);
         let calls = numbers.into_iter().map(|number| {
             let record = records.get(number).and_then(Option::as_ref);

@@ -80,6 +80,24 @@ fn a_file_gives_answers_and_bytes() {
 }
 
 #[test]
+fn a_list_to_be_written_fills_its_file() {
+    for (name, records, blocks) in [
+        ("write-F-10", 32, 2),
+        ("write-F-10-short", 640, 2),
+        ("write-F-10-defect", 16, 1),
+        ("write-S-100-short", 3_399, 20),
+    ] {
+        let mut image = run(&["sample", name], b"").stdout;
+        let bodies = run(&["bodies", name], b"").stdout;
+        let text = String::from_utf8(run(&["lengths", name], b"").stdout).expect("text");
+        let lengths: Vec<u32> = text.lines().filter_map(|line| line.parse().ok()).collect();
+        assert_eq!(lengths.len(), records);
+        let written = compare::write(&mut image, 1, &bodies, &lengths);
+        assert_eq!(written, Ok(blocks));
+    }
+}
+
+#[test]
 fn help_is_printed_and_misuse_is_2() {
     assert!(run(&["--help"], b"").status.success());
     for wrong in [
@@ -90,6 +108,9 @@ fn help_is_printed_and_misuse_is_2() {
         &["sample", "F-11"],
         &["sample", "F-10-found"],
         &["walk", "read", "0"],
+        &["bodies", "F-10"],
+        &["lengths", "write-F-10-long"],
+        &["sample", "write-X-10"],
     ] {
         assert_eq!(run(wrong, b"").status.code(), Some(2));
     }

@@ -27,7 +27,8 @@ Runs the driver by COMMAND and compares with it
   counted out, on N/8 drawn volumes, on the largest ones, each by several lists, one over the other; behind each that is
   done every byte of the image is accounted for, the file is read back, all other files are read, judgement, free records
   and names are asked again; of long files some records;
-- refused writes: each refusal, every set of them at once, wrong sums and lengths, N/2 drawn writes, N/8 bad images.
+- refused writes: each refusal, every set of them at once, wrong sums and lengths, N/8 bad images; and N/4 drawn
+  writes, refused or done.
 What calls of reading, salvage and writing have reached is printed; all of the table has to be. The last line is
 'N passed, M failed'.
 ";
@@ -111,7 +112,7 @@ fn writes(session: &mut Session, options: &Options) -> io::Result<()> {
         written::rewritten(on, seed, count / 8, largest)
     })?;
     session.stage("unwritten", |on| {
-        unwritten::all(on, seed, count / 2, largest)
+        unwritten::all(on, seed, count / 4, largest)
     })?;
     session.stage("written large", edges::large)
 }

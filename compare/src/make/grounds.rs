@@ -128,7 +128,7 @@ fn defective(number: usize, record: usize, length: usize) -> bool {
         4 => record == length / 2,
         5 => record % 3 == 1,
         6 => record == 0 || record + 1 == length || record + 2 == length,
-        7 => record % 4 != 0,
+        7 => !record.is_multiple_of(4),
         _ => number.is_multiple_of(5) || record > 0,
     }
 }
