@@ -94,7 +94,7 @@ galz_u64 galz_salvage(const galz_u8 *image, galz_u64 image_length, galz_u64 slot
  * good again) and its body data with 00 behind; and two fields of the label, the unused count U (positions 58-62, spaces for 0) and the data end (75-79).
  * Defective records are passed over, and records of the extent behind the last block written stay as they were.
  *
- * Refused: 1 to 17 and 24 to 27, in the order 1 to 16, 24, 17, 25, 26, 27. A refusal has changed no byte. A file that is refused 18 may be written.
+ * Refused: 1 to 17 and 24 to 27, in the order 1 to 16, 24, 17, 25, 26, 27. A refusal has changed no byte. A file that reading refuses (18) may be written.
  */
 galz_u64 galz_write(galz_u8 *image, galz_u64 image_length, galz_u64 slot, const galz_u8 *bodies, galz_u64 bodies_length, const galz_u32 *lengths,
 		    galz_u64 count);
@@ -130,7 +130,7 @@ galz_u64 galz_write(galz_u8 *image, galz_u64 image_length, galz_u64 slot, const 
  *   26  a length that the label does not allow                      the first such record, from 0
  *   27  more blocks needed than the extent holds                    the blocks needed; 2^32-1 if they are more than that
  *
- * 26: in F a length that is not R; in V one that is over R with 4 added; in S one over R, unless R is 0000, and any but 0 where B is 5.
+ * 26: in F a length that is not R; in V one that is over R once 4 is added to it; in S one over R, unless R is 0000, and any but 0 where B is 5.
  */
 
 /* so many bits of a number, from a bit on */
