@@ -1,26 +1,26 @@
 -- Bytes laid from a pen on: within its record, from record to record, and one run behind another.
 -- Assumes nothing.
-use Prim.Native.Nat.{ℕ, _+_, _-_, _<_, _≤_}
+use Prim.Native.Nat.{ℕ, suc, _+_, _-_, _<_, _≤_}
 use mathlib.Core.Path.{_≡_, refl, sym, ap, subst, _∙_}
-use mathlib.Core.Bool.{true, cond}
+use mathlib.Core.Bool.{true, false, cond}
 use mathlib.Core.List.{List, [], _∷_, _++_, append-assoc}
-use lib.ListN.{length, take, drop, set, length-set, length-append}
+use lib.ListN.{length, getD, take, drop, set, length-set, length-append}
 use lib.Seq.{take-nil, drop-nil}
 use lib.Dec.{leb}
 use native.Mathlib.Omega.{arith}
-use borrow.Author.Tests.{le-ltb}
-use Rattle.standard.specs.Layout.{indexSectors, kAt, kindOffset, bodyOffset}
-use Rattle.standard.specs.Addresses.{legal, ordinal}
+use borrow.Author.Tests.{lt-ltb, le-ltb, ne-eqb}
+use Rattle.standard.specs.Layout.{indexSectors, kAt, kindAt, kindOffset, bodyOffset, incorrectMark}
+use Rattle.standard.specs.Addresses.{legal, ordinal, stepped}
 use Rattle.standard.specs.Writing.{splice}
 use Rattle.standard.specs.declared.Geometry.{Geometry}
 use Rattle.standard.specs.declared.Address.{Address}
 use Rattle.promises.specs.Splices.{splice-length}
 use Rattle.promises.specs.StoreLaws.{splice-join}
-use Rattle.promises.specs.AddressLaws.{ordinal-ge}
-use Rattle.promises.specs.Tiling.{address-room}
-use Rattle.extents.specs.Cursors.{legalAt, standing}
+use Rattle.promises.specs.AddressLaws.{parts, address, ordinal-is, ordinal-ge}
+use Rattle.promises.specs.Tiling.{size-data, next-sector, address-room}
+use Rattle.extents.specs.Cursors.{legalOn, legalAt, goodFrom, standing}
 use Rattle.extents.specs.declared.Cursor.{Cursor}
-use Rattle.extents.proofs.CursorLaws.{legal-head, stand-none}
+use Rattle.extents.proofs.CursorLaws.{legal-head, legal-next, defect-none, good-stand, good-none, stand-next, stand-none}
 use Rattle.filling.specs.Poured.{poured, pouredFrom, laidBy, Sized, Placed, Lays, packed, Marked, Turned}
 use Rattle.filling.specs.declared.Pen.{Pen}
 use Rattle.filling.proofs.RunLaws.{splice-none, set-splice, in-part, take-over, drop-over, packed-length, packed-split, least-rest}
@@ -97,7 +97,7 @@ module _ (g : Geometry) (s : List ℕ) (p : Pen) (x : List ℕ) (h : Placed g s 
   room : bodyOffset g here + p .i + length x ≤ length s
   room = record-room g s (h .0) (p .c .at) (legal-head g (p .c .left) (p .c .at) (omega (arith, h .2)) (h .1)) (bodyOffset g here + p .i) x low high
 
-  pub within-record : (i′ at′ : ℕ) → i′ ≡ p .i + length x → at′ ≡ p .at + length x → Lays g s p x (splice (p .at) x s) (record { c = p .c; i = i′; at = at′ })
+  within-record : (i′ at′ : ℕ) → i′ ≡ p .i + length x → at′ ≡ p .at + length x → Lays g s p x (splice (p .at) x s) (record { c = p .c; i = i′; at = at′ })
   within-record i′ at′ ei ea =
       let o = bodyOffset g here + p .i in
       let t = splice o x s in
@@ -120,7 +120,7 @@ module _ (g : Geometry) (s : List ℕ) (p : Pen) (x : List ℕ) (h : Placed g s 
       )
 
   -- the record's body is handed to the filler, and comes back
-  pub part-laid : (size : ℕ) (part : List ℕ) → size ≡ g .P → part ≡ splice (p .i) x (take (p .at - p .i + size - (p .at - p .i)) (drop (p .at - p .i) s))
+  part-laid : (size : ℕ) (part : List ℕ) → size ≡ g .P → part ≡ splice (p .i) x (take (p .at - p .i + size - (p .at - p .i)) (drop (p .at - p .i) s))
       → take (p .at - p .i) s ++ (part ++ drop (p .at - p .i + size - (p .at - p .i)) (drop (p .at - p .i) s)) ≡ splice (p .at) x s
   part-laid size part e f =
       let a = p .at - p .i in
@@ -130,6 +130,13 @@ module _ (g : Geometry) (s : List ℕ) (p : Pen) (x : List ℕ) (h : Placed g s 
       ∙ ap (λ (m : ℕ). take a s ++ (splice (p .i) x (take m (drop a s)) ++ drop m (drop a s))) k
       ∙ in-part a (p .i) (g .P) x s fits (pen-room g s p h .1)
       ∙ ap (λ (m : ℕ). splice m x s) o
+
+  -- and the bytes are laid from the pen on
+  pub part-lays : (size : ℕ) (part : List ℕ) (i′ at′ : ℕ) → size ≡ g .P → part ≡ splice (p .i) x (take (p .at - p .i + size - (p .at - p .i)) (drop (p .at - p .i) s)) → i′ ≡ p .i + length x → at′ ≡ p .at + length x
+      → Lays g s p x (take (p .at - p .i) s ++ (part ++ drop (p .at - p .i + size - (p .at - p .i)) (drop (p .at - p .i) s))) (record { c = p .c; i = i′; at = at′ })
+  part-lays size part i′ at′ e f ei ea =
+      let p′ : Pen = record { c = p .c; i = i′; at = at′ } in
+      subst (λ (u : List ℕ). Lays g s p x u p′) (sym (part-laid size part e f)) (within-record i′ at′ ei ea)
 
 -- ---- FROM RECORD TO RECORD
 -- "all others the k of VOL1 position 76"
@@ -207,6 +214,58 @@ turn-goes g s p next h e f ln less some s′ p′ m =
       later = λ _. omega (arith, ap (λ (c : Cursor). c .left) (m .under), less);
       stays = λ w bytes. absurd (omega (arith, w, m .first, h .0 .1));
     }
+
+-- the record behind one on its track stands behind its body
+step-on : (g : Geometry) (a : Address) → a .sector < g .D → stepped g a ≡ address (a .cylinder) (a .side) (a .sector + 1)
+unfolding stepped
+step-on g a l = simp (lt-ltb (a .sector) (g .D) l)
+
+pub track-next : (g : Geometry) (a next : Address) → legal g a ≡ true → legal g next ≡ true → next ≡ stepped g a → a .sector < g .D → bodyOffset g (ordinal g a) + g .P ≡ kindOffset g (ordinal g next)
+unfolding bodyOffset
+track-next g a next la ln e l =
+    let b : Address = address (a .cylinder) (a .side) (a .sector + 1) in
+    let f : next ≡ b = e ∙ step-on g a l in
+    let lb : legal g b ≡ true = subst (λ (x : Address). legal g x ≡ true) f ln in
+    let o : ordinal g next ≡ suc (ordinal g a) = ap (ordinal g) f ∙ ordinal-is g b lb ∙ omega (arith, ordinal-is g a la, parts g a la .sector-low) in
+    omega (arith, ap (kindOffset g) o, next-sector g (ordinal g a), size-data g (ordinal g a) (ordinal-ge g a la))
+
+-- a record without the incorrect mark
+pub not-incorrect : (g : Geometry) (s : List ℕ) (a : Address) → legal g a ≡ true → (o b k : ℕ) → o ≡ kindOffset g (ordinal g a) → b ≡ getD s o 0 → k ≡ g .k → (b ≡ 16 + k → ⊥)
+    → incorrectMark g s (ordinal g a) ≡ false
+unfolding incorrectMark kindAt
+not-incorrect g s a la o b k eo eb ek unlike =
+    let at = kindOffset g (ordinal g a) in
+    ne-eqb (getD s at 0) (16 + kAt g (ordinal g a))
+    (λ e. unlike (eb ∙ ap (λ (m : ℕ). getD s m 0) eo ∙ e ∙ ap (λ (m : ℕ). 16 + m) (data-k g a la ∙ sym ek)))
+
+-- the step to the record behind: there is none, or it is good
+module _ (g : Geometry) (s : List ℕ) (p : Pen) (h : Placed g s p) (e : p .i ≡ g .P) where
+  pub turn-ends : p .c .left ≤ 1 → Turned g s p s p
+  turn-ends l =
+      let a = stepped g (p .c .at) in
+      let n = p .c .left - 1 in
+      let none : Cursor = record { at = a; left = 0 } in
+      let z : n ≤ 0 = omega arith in
+      turn-stays g s p none h e (good-none g s n a z ∙ stand-next g s (p .c .left) (p .c .at) (omega (arith, h .2))) (omega arith)
+
+  pub next-legal : (next : Address) → next ≡ stepped g (p .c .at) → 1 < p .c .left → legalOn g (p .c .left - 1) next ≡ true
+  next-legal next en l = ap (legalOn g (p .c .left - 1)) en ∙ legal-next g (p .c .left) (p .c .at) (omega arith) (h .1)
+
+  pub next-room : (next : Address) → next ≡ stepped g (p .c .at) → 1 < p .c .left → (o : ℕ) → o ≡ kindOffset g (ordinal g next) → o < length s
+  next-room next en l o eo =
+      let c′ : Cursor = record { at = next; left = p .c .left - 1 } in
+      omega (arith, eo, mark-room g s (h .0) c′ (next-legal next en l) (omega arith))
+
+  pub turn-next : (next : Address) → next ≡ stepped g (p .c .at) → 1 < p .c .left → incorrectMark g s (ordinal g next) ≡ false → (s′ : List ℕ) (p′ : Pen)
+      → Marked g s (record { at = next; left = p .c .left - 1 }) s′ p′ → Turned g s p s′ p′
+  turn-next next en l good s′ p′ m =
+      let n = p .c .left - 1 in
+      let c′ : Cursor = record { at = next; left = n } in
+      let some : 0 < n = omega arith in
+      let less : n < p .c .left = omega arith in
+      turn-goes g s p c′ h e
+      (good-stand g s n next some (defect-none g s next good) ∙ ap (goodFrom g s n) en ∙ stand-next g s (p .c .left) (p .c .at) (omega arith))
+      (next-legal next en l) less (omega arith) s′ p′ m
 
 turned-lays : (g : Geometry) (s s′ : List ℕ) (p p′ : Pen) → Turned g s p s′ p′ → (bytes : List ℕ) → 0 < length bytes → laidBy g s p bytes ≡ laidBy g s′ p′ bytes
 turned-lays g s s′ p p′ t [] l = absurd (omega arith)

@@ -29,7 +29,7 @@ unfolding splice
 set-splice o y s h = set-split s o y h ∙ ap (λ (n : ℕ). take o s ++ (y ∷ drop n s)) (sym (add-one o))
 
 -- one byte more
-splice-more : (o : ℕ) (x : List ℕ) (y : ℕ) (s : List ℕ) → o + length x < length s → set (splice o x s) (o + length x) y ≡ splice o (x ++ (y ∷ [])) s
+pub splice-more : (o : ℕ) (x : List ℕ) (y : ℕ) (s : List ℕ) → o + length x < length s → set (splice o x s) (o + length x) y ≡ splice o (x ++ (y ∷ [])) s
 splice-more o x y s h =
     let l = splice-length o x s (omega arith) in
     set-splice (o + length x) y (splice o x s) (omega arith) ∙ splice-join o x (y ∷ []) s (omega arith)

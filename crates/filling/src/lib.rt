@@ -6,7 +6,9 @@ use extents::next_good;
 use fields::wide16;
 use layout::kind_offset;
 use layout::ordinal_of;
+use standard::Address;
 use standard::Geometry;
+use standard::wide;
 ghost use mathlib.Core.Path.{_≡_};
 ghost use mathlib.Core.Bool.{true, cond};
 ghost use lib.Dec.{leb};
@@ -14,6 +16,8 @@ ghost use mathlib.Core.List.{List, _∷_};
 ghost use Prim.Native.Nat.{ℕ, _+_, _/_, _<_, _≤_};
 ghost use lib.ListN.{length, take, drop};
 ghost use Rattle.standard.specs.Characters.{digitOf, padded};
+ghost use Rattle.standard.specs.Layout.{kindOffset, bodyOffset};
+ghost use Rattle.standard.specs.Addresses.{legal, stepped, ordinal};
 ghost use Rattle.standard.specs.Packing.{fill};
 ghost use Rattle.standard.specs.Writing.{splice};
 ghost use Rattle.extents.specs.Cursors.{legalAt, standing};
@@ -59,18 +63,26 @@ fn pack(body: &mut [u8], i: usize, bytes: &[u8], from: usize, n: usize, zeros: u
     lay_fill(body, i + n, zeros);
 }
 
-// A record is begun: it gets the valid mark.
-fn mark(g: Geometry, image: &mut [u8], c: Cursor) -> Pen
-    requires { ⌜ (Sized g (now image)) × (legalAt g c ≡ true) × (1 ≤ c .left) ⌝ }
+// A record is begun: it gets the valid mark, in its kind byte.
+fn mark_at(g: Geometry, image: &mut [u8], c: Cursor, at: u64) -> Pen
+    requires { ⌜ (Sized g (now image)) × (legalAt g c ≡ true) × (1 ≤ c .left) × (at ≡ kindOffset g (ordinal g (c .at))) ⌝ }
     ensures { λ r. ⌜ Marked g (now (image .entry)) c (now (image .exit)) r ⌝ }
 {
-    let at = kind_offset(g, ordinal_of(g, c.at));
     image[at as usize] = g.k;
     Pen {
         c: c,
         i: 0,
         at: at + 1,
     }
+}
+
+// The same, where it is not known yet where the record is.
+fn mark(g: Geometry, image: &mut [u8], c: Cursor) -> Pen
+    requires { ⌜ (Sized g (now image)) × (legalAt g c ≡ true) × (1 ≤ c .left) ⌝ }
+    ensures { λ r. ⌜ Marked g (now (image .entry)) c (now (image .exit)) r ⌝ }
+{
+    let at = kind_offset(g, ordinal_of(g, c.at));
+    mark_at(g, image, c, at)
 }
 
 // A pen on the first of the records that are to be written.
@@ -81,8 +93,8 @@ pub fn begin(g: Geometry, image: &mut [u8], c: Cursor) -> Pen
     mark(g, image, c)
 }
 
-// From the end of a record to the next good one, where a byte is still to come; behind the last record the pen stays.
-fn turn(g: Geometry, image: &mut [u8], p: Pen) -> Pen
+// From the end of a record to the next good one, past defective records.
+fn turn_past(g: Geometry, image: &mut [u8], p: Pen) -> Pen
     requires { ⌜ (Placed g (now image) p) × (p .i ≡ g .P) ⌝ }
     ensures { λ r. ⌜ Turned g (now (image .entry)) p (now (image .exit)) r ⌝ }
 {
@@ -91,6 +103,48 @@ fn turn(g: Geometry, image: &mut [u8], p: Pen) -> Pen
         return p;
     }
     mark(g, image, next)
+}
+
+// Where the record behind one begins: behind its body, `end`, if the track goes on; else its ordinal tells it.
+fn kind_behind(g: Geometry, a: Address, next: Address, end: u64) -> u64
+    requires { ⌜ (legal g a ≡ true) × (legal g next ≡ true) × (next ≡ stepped g a) × (end ≡ bodyOffset g (ordinal g a) + g .P) ⌝ }
+    ensures { λ r. ⌜ r ≡ kindOffset g (ordinal g next) ⌝ }
+{
+    let n = a.sector;
+    if n < wide(g.D) {
+        return end;
+    }
+    kind_offset(g, ordinal_of(g, next))
+}
+
+// From the end of a record to the next good one, where a byte is still to come; behind the last record the pen stays. A record without the incorrect mark is good,
+// and most next ones are: its place is found once.
+fn turn(g: Geometry, image: &mut [u8], p: Pen) -> Pen
+    requires { ⌜ (Placed g (now image) p) × (p .i ≡ g .P) ⌝ }
+    ensures { λ r. ⌜ Turned g (now (image .entry)) p (now (image .exit)) r ⌝ }
+{
+    let c = p.c;
+    let a = c.at;
+    let left = c.left;
+    let end = p.at;
+    if left == 1 {
+        return p;
+    }
+    let next = a.step(g);
+    let o = kind_behind(g, a, next, end);
+    let kind = wide(image[o as usize]);
+    if kind == 16 + wide(g.k) {
+        return turn_past(g, image, p);
+    }
+    mark_at(
+        g,
+        image,
+        Cursor {
+            at: next,
+            left: left - 1,
+        },
+        o,
+    )
 }
 
 // Data and fill that have room in the record: its body, the part of the image behind the kind byte, is handed to the filler.
@@ -119,7 +173,7 @@ fn put_in(g: Geometry, image: &mut [u8], p: Pen, bytes: &[u8], from: u64, n: u64
 }
 
 // the lesser
-fn least(a: u64, b: u64) -> u64
+pub fn least(a: u64, b: u64) -> u64
     ensures { λ r. ⌜ (r ≤ a) × (r ≤ b) × (r ≡ cond (leb a b) a b) ⌝ }
 {
     if a <= b {
@@ -169,8 +223,68 @@ fn digit_at(n: u64, worth: u64) -> u8
     (48 + n / worth % 10) as u8
 }
 
-// The control word of V: "four digits".
-pub fn put_length(g: Geometry, image: &mut [u8], p: Pen, size: u64) -> Pen
+// Four digits, laid into a record's body from byte i on.
+fn lay_digits(body: &mut [u8], i: usize, size: u64)
+    requires { ⌜ i + 4 ≤ length (now body) ⌝ }
+    ensures { λ r. ⌜ now (body .exit) ≡ splice i (padded 4 size) (now (body .entry)) ⌝ }
+{
+    let thousands = digit_at(size, 1000);
+    let hundreds = digit_at(size, 100);
+    let tens = digit_at(size, 10);
+    let ones = digit_at(size, 1);
+    body[i] = thousands;
+    body[i + 1] = hundreds;
+    body[i + 2] = tens;
+    body[i + 3] = ones;
+}
+
+// The role's digit and four digits, laid into a record's body from byte i on.
+fn lay_segment(body: &mut [u8], i: usize, digit: u64, size: u64)
+    requires { ⌜ (i + 5 ≤ length (now body)) × (digit < 4) ⌝ }
+    ensures { λ r. ⌜ now (body .exit) ≡ splice i (wordS digit size) (now (body .entry)) ⌝ }
+{
+    body[i] = (48 + digit) as u8;
+    lay_digits(body, i + 1, size);
+}
+
+// A control word of V that has room in the record: its body is lent, as to the filler. Most words have room, and these need no run of bytes.
+fn length_in(g: Geometry, image: &mut [u8], p: Pen, size: u64) -> Pen
+    requires { ⌜ (Placed g (now image) p) × (p .i + 4 ≤ g .P) ⌝ }
+    ensures { λ r. ⌜ Lays g (now (image .entry)) p (padded 4 size) (now (image .exit)) r ⌝ }
+{
+    let c = p.c;
+    let i = p.i;
+    let at = p.at;
+    let a = (at - i) as usize;
+    let e = a + wide16(g.P) as usize;
+    lay_digits(&mut image[a..e], i as usize, size);
+    Pen {
+        c: c,
+        i: i + 4,
+        at: at + 4,
+    }
+}
+
+// A control word of S that has room in the record.
+fn segment_in(g: Geometry, image: &mut [u8], p: Pen, digit: u64, size: u64) -> Pen
+    requires { ⌜ (Placed g (now image) p) × (p .i + 5 ≤ g .P) × (digit < 4) ⌝ }
+    ensures { λ r. ⌜ Lays g (now (image .entry)) p (wordS digit size) (now (image .exit)) r ⌝ }
+{
+    let c = p.c;
+    let i = p.i;
+    let at = p.at;
+    let a = (at - i) as usize;
+    let e = a + wide16(g.P) as usize;
+    lay_segment(&mut image[a..e], i as usize, digit, size);
+    Pen {
+        c: c,
+        i: i + 5,
+        at: at + 5,
+    }
+}
+
+// A control word of V that goes on over records.
+fn length_over(g: Geometry, image: &mut [u8], p: Pen, size: u64) -> Pen
     requires { ⌜ Placed g (now image) p ⌝ }
     ensures { λ r. ⌜ Lays g (now (image .entry)) p (padded 4 size) (now (image .exit)) r ⌝ }
 {
@@ -183,8 +297,8 @@ pub fn put_length(g: Geometry, image: &mut [u8], p: Pen, size: u64) -> Pen
     put(g, image, p, &word, 0, 4, 0)
 }
 
-// The control word of S: "`0`-`3`, four digits".
-pub fn put_segment(g: Geometry, image: &mut [u8], p: Pen, digit: u64, size: u64) -> Pen
+// A control word of S that goes on over records.
+fn segment_over(g: Geometry, image: &mut [u8], p: Pen, digit: u64, size: u64) -> Pen
     requires { ⌜ (Placed g (now image) p) × (digit < 4) ⌝ }
     ensures { λ r. ⌜ Lays g (now (image .entry)) p (wordS digit size) (now (image .exit)) r ⌝ }
 {
@@ -196,4 +310,28 @@ pub fn put_segment(g: Geometry, image: &mut [u8], p: Pen, digit: u64, size: u64)
         digit_at(size, 1),
     ];
     put(g, image, p, &word, 0, 5, 0)
+}
+
+// The control word of V: "four digits".
+pub fn put_length(g: Geometry, image: &mut [u8], p: Pen, size: u64) -> Pen
+    requires { ⌜ Placed g (now image) p ⌝ }
+    ensures { λ r. ⌜ Lays g (now (image .entry)) p (padded 4 size) (now (image .exit)) r ⌝ }
+{
+    let i = p.i;
+    if i + 4 <= wide16(g.P) {
+        return length_in(g, image, p, size);
+    }
+    length_over(g, image, p, size)
+}
+
+// The control word of S: "`0`-`3`, four digits".
+pub fn put_segment(g: Geometry, image: &mut [u8], p: Pen, digit: u64, size: u64) -> Pen
+    requires { ⌜ (Placed g (now image) p) × (digit < 4) ⌝ }
+    ensures { λ r. ⌜ Lays g (now (image .entry)) p (wordS digit size) (now (image .exit)) r ⌝ }
+{
+    let i = p.i;
+    if i + 5 <= wide16(g.P) {
+        return segment_in(g, image, p, digit, size);
+    }
+    segment_over(g, image, p, digit, size)
 }

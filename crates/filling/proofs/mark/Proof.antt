@@ -2,11 +2,9 @@
 -- Assumes nothing.
 use mathlib.Core.Path.{ap, _∙_}
 use native.Mathlib.Omega.{arith}
-use denote.Ref.{now}
 use borrow.Author.Needs.{needs}
 use Rattle.standard.specs.Layout.{kindOffset}
 use Rattle.extents.proofs.CursorLaws.{legal-small, legal-head}
-use Rattle.filling.proofs.PenLaws.{mark-room, marked}
 use Rattle.filling.proofs.mark.Statement.{statement}
 use Rattle.filling.proofs.mark.Tie as tie
 
@@ -18,31 +16,19 @@ ordinal-of-requires c κs =
 kind-offset-requires : tie.Need-kind-offset-requires
 kind-offset-requires c κs = search needs
 
-slice-write-image : tie.Need-slice-write-image
-slice-write-image c =
-    let x = c .before .before .before .args in
-    let p = c .before .before .before .pre in
-    omega (arith, mark-room (x .g) (now (x .image)) (p .0) (x .c) (p .1) (p .2), c .kind-offset .ensures .0, ap (kindOffset (x .g)) (c .before .ordinal-of .ensures .0))
-
-add-t5 : tie.Need-add-t5
-add-t5 c = search needs
+mark-at-requires : tie.Need-mark-at-requires
+mark-at-requires c κs =
+    let x = c .before .before .before .before .args in
+    let p = c .before .before .before .before .pre in
+    (p .0, p .1, p .2, c .before .kind-offset .ensures .0 ∙ ap (kindOffset (x .g)) (c .before .before .ordinal-of .ensures .0))
 
 same-length : tie.Need-same-length
 same-length c = search needs
 
 returns : tie.Need-returns
-returns c =
-    let x = c .before .before .before .args in
-    let p = c .before .before .before .pre in
-    marked (x .g) (now (x .image)) (p .0) (x .c) (p .1) (p .2) _ (c .kind-offset .ensures .0 ∙ ap (kindOffset (x .g)) (c .before .ordinal-of .ensures .0))
+returns c = search needs
 
 pub mark-spec : {M : Type 1} → statement M
 mark-spec =
     tie.close
-    (tie.spec
-    ordinal-of-requires
-    kind-offset-requires
-    slice-write-image
-    add-t5
-    same-length
-    returns)
+    (tie.spec ordinal-of-requires kind-offset-requires mark-at-requires same-length returns)

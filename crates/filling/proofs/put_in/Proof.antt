@@ -1,16 +1,14 @@
 -- `put_in` meets its contract.
 -- Assumes nothing.
-use Prim.Native.Nat.{ℕ, _+_}
-use mathlib.Core.Path.{_≡_, refl, sym, subst}
-use mathlib.Core.List.{List}
+use Prim.Native.Nat.{_+_}
+use mathlib.Core.Path.{_≡_, refl}
 use lib.ListN.{length}
 use native.Mathlib.Omega.{arith}
 use denote.Ref.{now}
 use borrow.Author.Needs.{needs}
-use Rattle.filling.specs.Poured.{packed, Lays}
-use Rattle.filling.specs.declared.Pen.{Pen}
+use Rattle.filling.specs.Poured.{packed}
 use Rattle.filling.proofs.RunLaws.{packed-length}
-use Rattle.filling.proofs.PenLaws.{pen-room, within-record, part-laid}
+use Rattle.filling.proofs.PenLaws.{pen-room, part-lays}
 use Rattle.filling.proofs.put_in.Statement.{statement}
 use Rattle.filling.proofs.put_in.Tie as tie
 
@@ -70,9 +68,7 @@ returns c =
     let p = x .p in
     let all = packed (now (x .bytes)) (x .from) (x .n) (x .zeros) in
     let l : length all ≡ x .n + x .zeros = packed-length (now (x .bytes)) (x .from) (x .n) (x .zeros) (q .2) in
-    let p′ : Pen = record { c = p .c; i = p .i + x .n + x .zeros; at = p .at + x .n + x .zeros } in
-    let e = part-laid (x .g) s p all (q .0) (omega (arith, l, q .1)) (c .before .before .before .before .wide16 .result) (c .before .before .pack .last .0) (c .before .before .before .before .wide16 .ensures .0) (c .before .before .pack .ensures) in
-    (subst (λ (u : List ℕ). Lays (x .g) s p all u p′) (sym e) (within-record (x .g) s p all (q .0) (omega (arith, l, q .1)) (p .i + x .n + x .zeros) (p .at + x .n + x .zeros) (omega (arith, l)) (omega (arith, l))), refl, refl)
+    (part-lays (x .g) s p all (q .0) (omega (arith, l, q .1)) (c .before .before .before .before .wide16 .result) (c .before .before .pack .last .0) (p .i + x .n + x .zeros) (p .at + x .n + x .zeros) (c .before .before .before .before .wide16 .ensures .0) (c .before .before .pack .ensures) (omega (arith, l)) (omega (arith, l)), refl, refl)
 
 pub put-in-spec : {M : Type 1} → statement M
 put-in-spec =

@@ -1,4 +1,4 @@
--- `put_segment` meets its contract.
+-- `segment_over` meets its contract.
 -- Assumes nothing.
 use Prim.Native.Nat.{ℕ, _+_}
 use mathlib.Core.Path.{refl, subst}
@@ -7,8 +7,8 @@ use denote.Ref.{now}
 use borrow.Author.Needs.{needs}
 use Rattle.filling.specs.Poured.{Lays}
 use Rattle.filling.proofs.WordLaws.{word-S}
-use Rattle.filling.proofs.put_segment.Statement.{statement}
-use Rattle.filling.proofs.put_segment.Tie as tie
+use Rattle.filling.proofs.segment_over.Statement.{statement}
+use Rattle.filling.proofs.segment_over.Tie as tie
 
 add-t7 : tie.Need-add-t7
 add-t7 c = search needs
@@ -43,8 +43,8 @@ returns c =
     let e = word-S (x .digit) (x .size) (48 + x .digit) (c .before .before .before .before .before .before .before .before .digit-at .result) (c .before .before .before .before .before .before .before .digit-at2 .result) (c .before .before .before .before .before .before .digit-at3 .result) (c .before .before .before .before .before .digit-at4 .result) refl (c .before .before .before .before .before .before .before .before .digit-at .ensures) (c .before .before .before .before .before .before .before .digit-at2 .ensures) (c .before .before .before .before .before .before .digit-at3 .ensures) (c .before .before .before .before .before .digit-at4 .ensures) in
     subst (λ (t : List ℕ). Lays (x .g) (now (x .image)) (x .p) t (c .before .before .put .last .1 .0) (c .before .before .put .result)) e (c .before .before .put .ensures)
 
-pub put-segment-spec : {M : Type 1} → statement M
-put-segment-spec =
+pub segment-over-spec : {M : Type 1} → statement M
+segment-over-spec =
     tie.close
     (tie.spec
     add-t7

@@ -1,4 +1,4 @@
--- `put_length` meets its contract.
+-- `length_over` meets its contract.
 -- Assumes nothing.
 use Prim.Native.Nat.{ℕ}
 use mathlib.Core.Path.{subst}
@@ -7,8 +7,8 @@ use denote.Ref.{now}
 use borrow.Author.Needs.{needs}
 use Rattle.filling.specs.Poured.{Lays}
 use Rattle.filling.proofs.WordLaws.{word-V}
-use Rattle.filling.proofs.put_length.Statement.{statement}
-use Rattle.filling.proofs.put_length.Tie as tie
+use Rattle.filling.proofs.length_over.Statement.{statement}
+use Rattle.filling.proofs.length_over.Tie as tie
 
 digit-at-requires : tie.Need-digit-at-requires
 digit-at-requires c κs = search needs
@@ -37,8 +37,8 @@ returns c =
     let e = word-V (x .size) (c .before .before .before .before .before .before .before .before .digit-at .result) (c .before .before .before .before .before .before .before .digit-at2 .result) (c .before .before .before .before .before .before .digit-at3 .result) (c .before .before .before .before .before .digit-at4 .result) (c .before .before .before .before .before .before .before .before .digit-at .ensures) (c .before .before .before .before .before .before .before .digit-at2 .ensures) (c .before .before .before .before .before .before .digit-at3 .ensures) (c .before .before .before .before .before .digit-at4 .ensures) in
     subst (λ (t : List ℕ). Lays (x .g) (now (x .image)) (x .p) t (c .before .before .put .last .1 .0) (c .before .before .put .result)) e (c .before .before .put .ensures)
 
-pub put-length-spec : {M : Type 1} → statement M
-put-length-spec =
+pub length-over-spec : {M : Type 1} → statement M
+length-over-spec =
     tie.close
     (tie.spec
     digit-at-requires
