@@ -1,23 +1,24 @@
 -- The list of records as it will stand, record by record; and that it is what the definitions pack.
 -- Assumes nothing.
-use Prim.Native.Nat.{ℕ, zero, suc, _+_, _-_, _<_, _≤_}
+use Prim.Native.Nat.{ℕ, zero, suc, _+_, _-_, _*_, _<_, _≤_}
 use mathlib.Core.Path.{_≡_, refl, sym, ap, _∙_}
 use mathlib.Core.Bool.{Bool, true, false, cond}
 use mathlib.Core.List.{List, [], _∷_, _++_, map, append-assoc}
 use lib.ListN.{length, take, drop, length-append, length-drop}
-use lib.Seq.{length-take-le}
+use lib.Seq.{length-take-le, take-nil, drop-nil, take-append-add, drop-append-add}
 use lib.Dec.{leb}
 use native.Mathlib.Omega.{arith}
-use native.Mathlib.Nat.{not-suc-le-zero, sub-zero}
+use native.Mathlib.Nat.{not-suc-le-zero, sub-zero, mul-le-mul-right}
 use borrow.Author.Tests.{le-leb, lt-leb, leb-false}
-use Rattle.standard.specs.Labels.{Format, fixed, variable, spanned}
+use Rattle.standard.specs.Labels.{fixed, variable, spanned}
 use Rattle.standard.specs.Packing.{Laid, then, thenNext, fill, placeIf, recordV, lay, layOne, segment, segmentRole, spreadIf, spread, least, startIf, layS, packIn}
 use Rattle.standard.specs.Writing.{filledTo}
 use Rattle.promises.specs.Lists.{Every}
-use Rattle.promises.specs.NeededLaws.{leastFor, EachFits}
+use Rattle.promises.specs.NeededLaws.{leastFor}
+use Rattle.promises.specs.WritingPromises.{joined}
 use Rattle.promises.specs.WritingLaws.{segment-length, recordV-length, least-of, least-five}
 use Rattle.filling.specs.Poured.{flat}
-use Rattle.laying.specs.Ahead.{flatLaid, layFrom, joins}
+use Rattle.laying.specs.Ahead.{flatLaid, layFrom, fitsAs, chunked, chunks}
 
 -- ---- fill
 fill-add : (m n : ℕ) → fill m ++ fill n ≡ fill (m + n)
@@ -44,7 +45,7 @@ fill-filled size n h =
     let e : n + (size - length (fill n)) ≡ size = omega (arith, fill-length n) in
     fill-add n (size - length (fill n)) ∙ ap fill e
 
-filled-by : (size n : ℕ) (x : List ℕ) → length x ≡ n → filledTo size x ≡ x ++ fill (size - n)
+pub filled-by : (size n : ℕ) (x : List ℕ) → length x ≡ n → filledTo size x ≡ x ++ fill (size - n)
 unfolding filledTo
 filled-by size n x e = ap (λ (k : ℕ). x ++ fill (size - k)) e
 
@@ -157,17 +158,12 @@ start-same : (t : Bool) (B room : ℕ) (f g : ℕ → Laid) → ((r : ℕ) → f
 start-same true B room f g h = h room
 start-same false B room f g h = ap (thenNext (fill room)) (h B)
 
-lay-fixed : (B room : ℕ) (xs : List (List ℕ)) → layFrom fixed true B room xs ≡ lay B room xs
-unfolding layFrom lay
-lay-fixed B room [] = refl
-lay-fixed B room (x ∷ xs) = place-same (leb (length x) room) B room x _ _ (λ r. lay-fixed B r xs)
-
-lay-variable : (B room : ℕ) (xs : List (List ℕ)) → layFrom variable true B room xs ≡ lay B room (map recordV xs)
+lay-variable : (B room : ℕ) (xs : List (List ℕ)) → layFrom false true B room xs ≡ lay B room (map recordV xs)
 unfolding layFrom lay
 lay-variable B room [] = refl
 lay-variable B room (x ∷ xs) = place-same (leb (length (recordV x)) room) B room (recordV x) _ _ (λ r. lay-variable B r xs)
 
-lay-spanned : (j : Bool) (B room : ℕ) (xs : List (List ℕ)) → layFrom spanned j B room xs ≡ layS B room xs
+lay-spanned : (j : Bool) (B room : ℕ) (xs : List (List ℕ)) → layFrom true j B room xs ≡ layS B room xs
 unfolding layFrom layS
 lay-spanned j B room [] = refl
 lay-spanned j B room (x ∷ xs) =
@@ -187,7 +183,7 @@ first-spanned size B x at hi =
     rw (lt-leb (least x) 0 (omega arith), le-leb (least x) B hi) (flat-next size 0 (fill 0) (at B))
 
 -- V unblocked: "one to a block"
-alone-here : (B : ℕ) (xs : List (List ℕ)) → layFrom variable false B 0 xs .here ≡ []
+alone-here : (B : ℕ) (xs : List (List ℕ)) → layFrom false false B 0 xs .here ≡ []
 unfolding layFrom
 alone-here B [] = refl
 alone-here B (x ∷ xs) =
@@ -195,13 +191,13 @@ alone-here B (x ∷ xs) =
     rw (lt-leb (length (recordV x)) 0 (omega arith))
 
 alone-flat : (size B : ℕ) → B ≤ size → (xs : List (List ℕ)) → Every (λ x. 4 + length x ≤ B) xs
-    → flat size (layOne B (map recordV xs)) ≡ flatLaid size 0 (layFrom variable false B 0 xs)
+    → flat size (layOne B (map recordV xs)) ≡ flatLaid size 0 (layFrom false false B 0 xs)
 unfolding flat layOne layFrom filledTo
 alone-flat size B b [] h = sym (ap (λ (s : List ℕ). s ++ []) (filled-none 0))
 alone-flat size B b (x ∷ xs) h =
     let l = recordV-length x in
     let e = recordV x in
-    let k : Laid = layFrom variable false B 0 xs in
+    let k : Laid = layFrom false false B 0 xs in
     let once : filledTo size (e ++ fill (B - length e)) ≡ e ++ filledTo (size - length e) [] =
     filled-behind size e (fill (B - length e)) ∙ ap (λ (s : List ℕ). e ++ s) (fill-filled (size - length e) (B - length e) (omega (arith, h .0)) ∙ sym (filled-none (size - length e))) in
     let none = alone-here B xs in
@@ -216,11 +212,11 @@ begun : (size : ℕ) (l : Laid) → flat size (l .here ∷ l .later) ≡ flatLai
 unfolding flat
 begun size l = refl
 
-no-records : (size : ℕ) (f : Format) (j : Bool) (B : ℕ) → flat size [] ≡ flatLaid size 0 (layFrom f j B 0 [])
+no-records : (size : ℕ) (f : Bool) (j : Bool) (B : ℕ) → flat size [] ≡ flatLaid size 0 (layFrom f j B 0 [])
 unfolding flat layFrom
 no-records size f j B = sym (ap (λ (s : List ℕ). s ++ []) (filled-none 0))
 
-every-lengths : (C : ℕ → Type 0) (xs : List (List ℕ)) → Every C (map length xs) → Every (λ x. C (length x)) xs
+pub every-lengths : (C : ℕ → Type 0) (xs : List (List ℕ)) → Every C (map length xs) → Every (λ x. C (length x)) xs
 every-lengths C [] h = tt
 every-lengths C (x ∷ xs) h = (h .0, every-lengths C xs (h .1))
 
@@ -228,24 +224,109 @@ pub least-for : (x : List ℕ) → least x ≡ leastFor (length x)
 least-for [] = refl
 least-for (y ∷ x) = refl
 
--- ALL THREE FORMATS: the packed blocks are what is laid from no block and no room on
-pub packed-flat : (f : Format) (blocked : Bool) (size B : ℕ) (xs : List (List ℕ)) → B ≤ size → EachFits f B (map length xs)
-    → flat size (packIn f blocked B xs .contents) ≡ flatLaid size 0 (layFrom f (joins f blocked) B 0 xs)
-unfolding lay layS
-packed-flat fixed blocked size B [] b h = no-records size fixed true B
-packed-flat fixed blocked size B (x ∷ xs) b h =
-    begun size (lay B B (x ∷ xs))
-    ∙ (sym (first-whole size B x (λ r. lay B r xs) (h .0 .0) (h .0 .1))
-    ∙ ap (flatLaid size 0) (sym (lay-fixed B 0 (x ∷ xs))))
-packed-flat variable true size B [] b h = no-records size variable true B
-packed-flat variable true size B (x ∷ xs) b h =
+-- V AND S: the packed blocks are what is laid from no block and no room on
+pub packed-V : (blocked : Bool) (size B : ℕ) (xs : List (List ℕ)) → B ≤ size → Every (fitsAs false B) (map length xs)
+    → flat size (packIn variable blocked B xs .contents) ≡ flatLaid size 0 (layFrom false blocked B 0 xs)
+unfolding lay
+packed-V true size B [] b h = no-records size false true B
+packed-V true size B (x ∷ xs) b h =
     let l = recordV-length x in
     begun size (lay B B (map recordV (x ∷ xs)))
     ∙ (sym (first-whole size B (recordV x) (λ r. lay B r (map recordV xs)) (omega arith) (omega (arith, h .0)))
     ∙ ap (flatLaid size 0) (sym (lay-variable B 0 (x ∷ xs))))
-packed-flat variable false size B xs b h = alone-flat size B b xs (every-lengths (λ n. 4 + n ≤ B) xs h)
-packed-flat spanned blocked size B [] b h = no-records size spanned true B
-packed-flat spanned blocked size B (x ∷ xs) b h =
+packed-V false size B xs b h = alone-flat size B b xs (every-lengths (λ n. 4 + n ≤ B) xs h)
+
+pub packed-S : (blocked j : Bool) (size B : ℕ) (xs : List (List ℕ)) → Every (fitsAs true B) (map length xs)
+    → flat size (packIn spanned blocked B xs .contents) ≡ flatLaid size 0 (layFrom true j B 0 xs)
+unfolding layS
+packed-S blocked j size B [] h = no-records size true j B
+packed-S blocked j size B (x ∷ xs) h =
     begun size (layS B B (x ∷ xs))
     ∙ (sym (first-spanned size B x (λ r. spread (suc (length x)) B false r x (λ r′. layS B r′ xs)) (omega (arith, least-for x, h .0)))
-    ∙ ap (flatLaid size 0) (sym (lay-spanned true B 0 (x ∷ xs))))
+    ∙ ap (flatLaid size 0) (sym (lay-spanned j B 0 (x ∷ xs))))
+
+-- F: the packed blocks are so many bytes of the bodies each
+chunk-enough : (k n B : ℕ) (s : List ℕ) → 1 ≤ B → length s ≤ k → length s ≤ n → chunked k B s ≡ chunked n B s
+unfolding chunked
+chunk-enough zero zero B s b hk hn = refl
+chunk-enough zero (suc n) B [] b hk hn = refl
+chunk-enough zero (suc n) B (x ∷ s) b hk hn = absurd (not-suc-le-zero hk)
+chunk-enough (suc k) zero B [] b hk hn = refl
+chunk-enough (suc k) zero B (x ∷ s) b hk hn = absurd (not-suc-le-zero hn)
+chunk-enough (suc k) (suc n) B [] b hk hn = refl
+chunk-enough (suc k) (suc n) B (x ∷ s) b hk hn =
+    let d = length-drop B (x ∷ s) in
+    ap (λ (r : List (List ℕ)). take B (x ∷ s) ∷ r) (chunk-enough k n B (drop B (x ∷ s)) b (omega arith) (omega arith))
+
+pub chunks-next : (B : ℕ) (s : List ℕ) → 1 ≤ B → 1 ≤ length s → chunks B s ≡ take B s ∷ chunks B (drop B s)
+unfolding chunked
+chunks-next B [] b h = absurd (not-suc-le-zero h)
+chunks-next B (x ∷ s) b h =
+    let d = length-drop B (x ∷ s) in
+    ap (λ (r : List (List ℕ)). take B (x ∷ s) ∷ r) (chunk-enough (length s) (length (drop B (x ∷ s))) B (drop B (x ∷ s)) b (omega arith) (omega arith))
+
+pub chunks-none : (B : ℕ) → chunks B [] ≡ []
+unfolding chunked
+chunks-none B = refl
+
+-- bytes, and so many more
+take-over : (n : ℕ) (x y : List ℕ) → length x ≤ n → take n (x ++ y) ≡ x ++ take (n - length x) y
+take-over n x y h =
+    let e : n ≡ length x + (n - length x) = omega arith in
+    ap (λ (k : ℕ). take k (x ++ y)) e ∙ take-append-add x y (n - length x)
+
+drop-over : (n : ℕ) (x y : List ℕ) → length x ≤ n → drop n (x ++ y) ≡ drop (n - length x) y
+drop-over n x y h =
+    let e : n ≡ length x + (n - length x) = omega arith in
+    ap (λ (k : ℕ). drop k (x ++ y)) e ∙ drop-append-add x y (n - length x)
+
+one-less : (q R : ℕ) → 1 ≤ q → (q - 1) * R ≡ q * R - R
+one-less zero R h = absurd (not-suc-le-zero h)
+one-less (suc q) R h =
+    let z : suc q - 1 ≡ q = omega arith in
+    rw z (omega arith)
+
+-- from a point of a block on: what room is left is filled first, and the rest goes into blocks of its own
+abbrev Chunked : ℕ → ℕ → List ℕ → Laid → Type 0
+Chunked B room s l = (l .here ≡ take room s) × (l .later ≡ chunks B (drop room s))
+
+chunks-then : (B room : ℕ) (x s : List ℕ) (l : Laid) → length x ≤ room → Chunked B (room - length x) s l → Chunked B room (x ++ s) (then x l)
+chunks-then B room x s l h k = (
+  ap (λ (y : List ℕ). x ++ y) (k .0) ∙ sym (take-over room x s h),
+  k .1 ∙ ap (chunks B) (sym (drop-over room x s h)),
+)
+
+chunks-first : (B : ℕ) (s : List ℕ) (l : Laid) → 1 ≤ B → 1 ≤ length s → Chunked B B s l → Chunked B 0 s (thenNext (fill 0) l)
+chunks-first B s l b h k =
+    (refl, ap (λ (c : List ℕ). c ∷ l .later) (k .0) ∙ (ap (λ (cs : List (List ℕ)). take B s ∷ cs) (k .1) ∙ sym (chunks-next B s b h)))
+
+lay-chunks : (R q B : ℕ) → 1 ≤ R → 1 ≤ q → B ≡ q * R → (xs : List (List ℕ)) → Every (λ x. length x ≡ R) xs → (j room : ℕ) → room ≡ j * R
+    → Chunked B room (joined xs) (lay B room xs)
+unfolding lay
+lay-chunks R q B r b e [] h j room z = (sym (take-nil room), sym (ap (chunks B) (drop-nil room) ∙ chunks-none B))
+lay-chunks R q B r b e (x ∷ xs) h zero room z =
+    let lx = h .0 in
+    let whole : R ≤ B = omega (arith, e, mul-le-mul-right R b) in
+    let less : (q - 1) * R ≡ q * R - R = one-less q R b in
+    let none : room ≡ 0 = omega (arith, z) in
+    let first : Chunked B B (x ++ joined xs) (then x (lay B (B - length x) xs)) =
+    chunks-then B B x (joined xs) (lay B (B - length x) xs) (omega arith) (lay-chunks R q B r b e xs (h .1) (q - 1) (B - length x) (omega arith)) in
+    rw (none, lt-leb (length x) 0 (omega arith))
+    (chunks-first B (x ++ joined xs) (then x (lay B (B - length x) xs)) (omega arith) (omega (arith, length-append x (joined xs))) first)
+lay-chunks R q B r b e (x ∷ xs) h (suc j) room z =
+    let lx = h .0 in
+    let there : room ≡ R + j * R = omega (arith, z) in
+    rw (le-leb (length x) room (omega arith))
+    (chunks-then B room x (joined xs) (lay B (room - length x) xs) (omega arith) (lay-chunks R q B r b e xs (h .1) j (room - length x) (omega arith)))
+
+pub packed-F : (blocked : Bool) (size R q B : ℕ) → 1 ≤ R → 1 ≤ q → B ≡ q * R → (xs : List (List ℕ)) → Every (λ x. length x ≡ R) xs
+    → packIn fixed blocked B xs .contents ≡ chunks B (joined xs)
+unfolding lay
+packed-F blocked size R q B r b e [] h = sym (chunks-none B)
+packed-F blocked size R q B r b e (x ∷ xs) h =
+    let k = lay-chunks R q B r b e (x ∷ xs) h q B e in
+    let lx = h .0 in
+    let whole : R ≤ B = omega (arith, e, mul-le-mul-right R b) in
+    ap (λ (c : List ℕ). c ∷ lay B B (x ∷ xs) .later) (k .0)
+    ∙ (ap (λ (cs : List (List ℕ)). take B (joined (x ∷ xs)) ∷ cs) (k .1)
+    ∙ sym (chunks-next B (joined (x ∷ xs)) (omega arith) (omega (arith, length-append x (joined xs)))))

@@ -5,12 +5,12 @@ use mathlib.Core.Path.{_≡_, refl, sym, ap, subst, _∙_}
 use mathlib.Core.Bool.{Bool, true, false, cond}
 use mathlib.Core.List.{List, [], _∷_, _++_, append-assoc, append-nil}
 use lib.ListN.{length, getD, take, drop, length-drop, length-append, drop-of-length-le}
-use lib.Seq.{length-take-le, drop-drop, drop-cons, take-take}
+use lib.Seq.{length-take-le, drop-drop, drop-cons, take-all, take-take}
 use lib.Dec.{leb}
 use native.Mathlib.Omega.{arith}
-use native.Mathlib.Nat.{not-suc-le-zero}
+use native.Mathlib.Nat.{not-suc-le-zero, mul-le-mul-right}
 use native.Mathlib.Numerals.{add-one}
-use borrow.Author.Tests.{leb-true, le-leb, lt-leb}
+use borrow.Author.Tests.{leb-true, leb-false, le-leb, lt-leb}
 use Rattle.standard.specs.Characters.{padded}
 use Rattle.standard.specs.Labels.{Format, fixed, variable, spanned}
 use Rattle.standard.specs.Pieces.{Role}
@@ -19,21 +19,22 @@ use Rattle.standard.specs.Writing.{total, parted, filledTo}
 use Rattle.standard.specs.declared.Geometry.{Geometry}
 use Rattle.labels.specs.Forms.{formatFor}
 use Rattle.labels.specs.declared.Form.{Form}
-use Rattle.promises.specs.NeededLaws.{leastFor, FitsIn, EachFits}
+use Rattle.promises.specs.Lists.{Every}
+use Rattle.promises.specs.NeededLaws.{leastFor}
 use Rattle.promises.specs.StoreLaws.{total-drop}
-use Rattle.promises.specs.WritingPromises.{parted-lengths}
+use Rattle.promises.specs.WritingPromises.{parted-lengths, parted-joined}
 use Rattle.standard.specs.declared.Address.{Address}
 use Rattle.extents.specs.Cursors.{standing}
 use Rattle.extents.specs.declared.Cursor.{Cursor}
 use Rattle.extents.proofs.CursorLaws.{stand-none}
 use Rattle.blocks.proofs.BlockLaws.{drop-take}
-use Rattle.filling.specs.Poured.{poured, laidBy, Lays, wordS, flat}
+use Rattle.filling.specs.Poured.{poured, laidBy, Lays, packed, wordS, flat}
 use Rattle.filling.proofs.PenLaws.{lays-done, lays-then}
 use Rattle.filling.specs.declared.Pen.{Pen}
-use Rattle.laying.specs.Ahead.{flatLaid, layRecord, layFrom, joins, Shaped, Ready, HasRoom, Steps}
+use Rattle.laying.specs.Ahead.{flatLaid, layRecord, layFrom, fitsAs, chunks, Tiled, Shaped, Ready, HasRoom, Steps}
 use Rattle.laying.specs.declared.Shape.{Shape}
 use Rattle.laying.specs.declared.Desk.{Desk}
-use Rattle.laying.proofs.AheadLaws.{filled-none, packed-flat, fill-length, place-step, start-step, spread-here, spread-on, least-for}
+use Rattle.laying.proofs.AheadLaws.{filled-none, filled-by, packed-F, packed-V, packed-S, chunks-next, chunks-none, every-lengths, fill-length, place-step, start-step, spread-here, spread-on, least-for}
 
 -- two lots of bytes, and what follows
 module _ (g : Geometry) (i i₁ i₂ : List ℕ) (p p₁ p₂ : Pen) (xs ys : List ℕ) (h : Lays g i p xs i₁ p₁) (k : Lays g i₁ p₁ ys i₂ p₂) where
@@ -131,7 +132,7 @@ module _ (g : Geometry) (s : Shape) (i i₁ i₂ : List ℕ) (d d₁ d₂ : Desk
 
   pub spanned-laid : (bodies : List ℕ) (from n : ℕ) → from + n ≤ length bodies → Ready g i s d → (need : ℕ) → need ≡ leastFor n → HasRoom g s i d need i₁ d₁
       → Steps g s i₁ d₁ (λ more. spread (suc n) (s .B) false (d₁ .room) (take n (drop from bodies)) more) i₂ d₂
-      → Steps g s i d (λ more. layRecord spanned (s .joined) (s .B) (d .room) (take n (drop from bodies)) more) i₂ d₂
+      → Steps g s i d (λ more. layRecord true (s .joined) (s .B) (d .room) (take n (drop from bodies)) more) i₂ d₂
   spanned-laid bodies from n l rd need e h k =
       let x = take n (drop from bodies) in
       let lx : length x ≡ n = part-length bodies from n l in
@@ -221,12 +222,12 @@ segment-laid g i i₁ i₂ p p₁ p₂ role digit x n zeros e r h k =
     rw (e, sym r) (ap (λ (l : List ℕ). (48 + digit) ∷ l) (sym (append-assoc (padded 4 (5 + n)) x (fill zeros)))) in
     subst (λ (l : List ℕ). Lays g i p l i₂ p₂) q w
 
--- a record of the format that the shape has
-pub of-form : (g : Geometry) (s : Shape) (i i′ : List ℕ) (d d′ : Desk) (x : List ℕ) (f : Form) → s .form ≡ f
-    → Steps g s i d (λ more. layRecord (formatFor f) (s .joined) (s .B) (d .room) x more) i′ d′
-    → Steps g s i d (λ more. layRecord (formatFor (s .form)) (s .joined) (s .B) (d .room) x more) i′ d′
-of-form g s i i′ d d′ x f e h =
-    subst (λ (k : Form). Steps g s i d (λ more. layRecord (formatFor k) (s .joined) (s .B) (d .room) x more) i′ d′) (sym e) h
+-- a record of V or of S, as the shape has it
+pub of-shape : (g : Geometry) (s : Shape) (i i′ : List ℕ) (d d′ : Desk) (x : List ℕ) (t : Bool) → s .spanned ≡ t
+    → Steps g s i d (λ more. layRecord t (s .joined) (s .B) (d .room) x more) i′ d′
+    → Steps g s i d (λ more. layRecord (s .spanned) (s .joined) (s .B) (d .room) x more) i′ d′
+of-shape g s i i′ d d′ x t e h =
+    subst (λ (k : Bool). Steps g s i d (λ more. layRecord k (s .joined) (s .B) (d .room) x more) i′ d′) (sym e) h
 
 -- ---- THE LIST, record by record
 module _ (g : Geometry) (s : Shape) (bodies lengths : List ℕ) where
@@ -234,14 +235,14 @@ module _ (g : Geometry) (s : Shape) (bodies lengths : List ℕ) where
   abbrev pub Behind : List ℕ → Desk → ℕ → ℕ → List ℕ → List ℕ
   Behind i d k from tail =
       laidBy g i (d .p)
-      (flatLaid (s .size) (d .rest) (layFrom (formatFor (s .form)) (s .joined) (s .B) (d .room) (parted (drop from bodies) (drop k lengths))) ++ tail)
+      (flatLaid (s .size) (d .rest) (layFrom (s .spanned) (s .joined) (s .B) (d .room) (parted (drop from bodies) (drop k lengths))) ++ tail)
 
   pub record-on : (i i′ : List ℕ) (d d′ : Desk) (k from n : ℕ) → k < length lengths → n ≡ getD lengths k 0
-      → Steps g s i d (λ more. layRecord (formatFor (s .form)) (s .joined) (s .B) (d .room) (take n (drop from bodies)) more) i′ d′
+      → Steps g s i d (λ more. layRecord (s .spanned) (s .joined) (s .B) (d .room) (take n (drop from bodies)) more) i′ d′
       → (tail : List ℕ) → Behind i d k from tail ≡ Behind i′ d′ (k + 1) (from + n) tail
   unfolding layFrom parted
   record-on i i′ d d′ k from n l e h tail =
-      let f = formatFor (s .form) in
+      let f = s .spanned in
       let first : drop k lengths ≡ n ∷ drop (k + 1) lengths = drop-cons lengths k 0 l ∙ (ap (λ (m : ℕ). m ∷ drop (suc k) lengths) (sym e) ∙ ap (λ (j : ℕ). n ∷ drop j lengths) (sym (add-one k))) in
       let later : drop n (drop from bodies) ≡ drop (from + n) bodies = drop-drop n from bodies in
       ap (λ (xs : List ℕ). laidBy g i (d .p) (flatLaid (s .size) (d .rest) (layFrom f (s .joined) (s .B) (d .room) (parted (drop from bodies) xs)) ++ tail)) first
@@ -249,13 +250,13 @@ module _ (g : Geometry) (s : Shape) (bodies lengths : List ℕ) where
       ∙ ap (λ (ys : List ℕ). laidBy g i′ (d′ .p) (flatLaid (s .size) (d′ .rest) (layFrom f (s .joined) (s .B) (d′ .room) (parted ys (drop (k + 1) lengths))) ++ tail)) later)
 
   -- the record's body is there, and fits
-  pub record-fits : (k from : ℕ) → k < length lengths → total (drop k lengths) + from ≡ length bodies → EachFits (formatFor (s .form)) (s .B) (drop k lengths)
-      → (FitsIn (formatFor (s .form)) (s .B) (getD lengths k 0)) × (from + getD lengths k 0 ≤ length bodies)
-      × (total (drop (k + 1) lengths) + (from + getD lengths k 0) ≡ length bodies) × EachFits (formatFor (s .form)) (s .B) (drop (k + 1) lengths)
+  pub record-fits : (k from : ℕ) → k < length lengths → total (drop k lengths) + from ≡ length bodies → Every (fitsAs (s .spanned) (s .B)) (drop k lengths)
+      → (fitsAs (s .spanned) (s .B) (getD lengths k 0)) × (from + getD lengths k 0 ≤ length bodies)
+      × (total (drop (k + 1) lengths) + (from + getD lengths k 0) ≡ length bodies) × Every (fitsAs (s .spanned) (s .B)) (drop (k + 1) lengths)
   record-fits k from l t f =
       let sum = total-drop lengths k l in
-      let q : EachFits (formatFor (s .form)) (s .B) (getD lengths k 0 ∷ drop (suc k) lengths) = subst (EachFits (formatFor (s .form)) (s .B)) (drop-cons lengths k 0 l) f in
-      let later : EachFits (formatFor (s .form)) (s .B) (drop (k + 1) lengths) = rw (add-one k) (q .1) in
+      let q : Every (fitsAs (s .spanned) (s .B)) (getD lengths k 0 ∷ drop (suc k) lengths) = subst (Every (fitsAs (s .spanned) (s .B))) (drop-cons lengths k 0 l) f in
+      let later : Every (fitsAs (s .spanned) (s .B)) (drop (k + 1) lengths) = rw (add-one k) (q .1) in
       (q .0, omega arith, omega arith, later)
 
   -- behind the last record there is the fill
@@ -263,7 +264,7 @@ module _ (g : Geometry) (s : Shape) (bodies lengths : List ℕ) where
   unfolding layFrom parted flat
   records-end i i′ d k from p l h tail =
       let none : drop k lengths ≡ [] = drop-of-length-le lengths l in
-      let f = formatFor (s .form) in
+      let f = s .spanned in
       ap (λ (xs : List ℕ). laidBy g i (d .p) (flatLaid (s .size) (d .rest) (layFrom f (s .joined) (s .B) (d .room) (parted (drop from bodies) xs)) ++ tail)) none
       ∙ (ap (λ (ys : List ℕ). laidBy g i (d .p) ((ys ++ flat (s .size) []) ++ tail)) (filled-none (d .rest))
       ∙ (ap (λ (ys : List ℕ). laidBy g i (d .p) (ys ++ tail)) (append-nil (fill (d .rest))) ∙ h .0 tail))
@@ -316,16 +317,79 @@ module _ (g : Geometry) (i : List ℕ) (c : Cursor) (f : Format) (blocked : Bool
   unfolding poured
   stored-nowhere e = rw (stand-none g i c (omega (arith, e)))
 
-  pub stored-all : (i₁ i₂ : List ℕ) (p r : Pen) → (j : Bool) → j ≡ joins f blocked → 1 ≤ size → B ≤ size → EachFits f B lengths → total lengths ≡ length bodies → (length lengths ≡ 0 → ⊥)
+  pub stored-all : (i₁ i₂ : List ℕ) (p r : Pen) → 1 ≤ size → (length lengths ≡ 0 → ⊥)
       → ((b : ℕ) (bytes : List ℕ) → poured g (standing g i c) (b ∷ bytes) i ≡ laidBy g i₁ p (b ∷ bytes))
-      → Lays g i₁ p (flatLaid size 0 (layFrom f j B 0 (parted bodies lengths))) i₂ r
-      → i₂ ≡ poured g (standing g i c) (flat size blocksOf) i
-  stored-all i₁ i₂ p r j ej sz b fits sum some h k =
+      → Lays g i₁ p (flat size blocksOf) i₂ r → i₂ ≡ poured g (standing g i c) (flat size blocksOf) i
+  stored-all i₁ i₂ p r sz some h k =
       let cs = flat size blocksOf in
-      let same : cs ≡ flatLaid size 0 (layFrom f (joins f blocked) B 0 (parted bodies lengths)) =
-      packed-flat f blocked size B (parted bodies lengths) b (subst (EachFits f B) (sym (parted-lengths lengths bodies sum)) fits) in
       let begins : poured g (standing g i c) cs i ≡ laidBy g i₁ p cs =
       some-bytes (λ (xs : List ℕ). poured g (standing g i c) xs i ≡ laidBy g i₁ p xs) cs (listed-some f blocked size B bodies lengths sz some) h in
-      sym (begins
-      ∙ (ap (laidBy g i₁ p) (same ∙ (ap (λ (t : Bool). flatLaid size 0 (layFrom f t B 0 (parted bodies lengths))) (sym ej) ∙ sym (append-nil _)))
-      ∙ (k .0 [] ∙ lays-done g i₂ r (k .1))))
+      sym (begins ∙ (ap (laidBy g i₁ p) (sym (append-nil cs)) ∙ (k .0 [] ∙ lays-done g i₂ r (k .1))))
+
+-- ---- BY THE FORMAT
+module _ (g : Geometry) (i i′ : List ℕ) (p p′ : Pen) (blocked : Bool) (B size : ℕ) (bodies lengths : List ℕ) (sum : total lengths ≡ length bodies) where
+  abbrev Listed : Format → Type 0
+  Listed f = Lays g i p (flat size (packIn f blocked B (parted bodies lengths) .contents)) i′ p′
+
+  relaid : (f : Format) (xs : List ℕ) → xs ≡ flat size (packIn f blocked B (parted bodies lengths) .contents) → Lays g i p xs i′ p′ → Listed f
+  relaid f xs e h = subst (λ (ys : List ℕ). Lays g i p ys i′ p′) e h
+
+  pub listed-F : Tiled B lengths → Lays g i p (flat size (chunks B bodies)) i′ p′ → Listed fixed
+  listed-F t h =
+      let each : Every (λ (x : List ℕ). length x ≡ t .R) (parted bodies lengths) = every-lengths (λ n. n ≡ t .R) (parted bodies lengths) (subst (Every (λ n. n ≡ t .R)) (sym (parted-lengths lengths bodies sum)) (t .each)) in
+      relaid fixed _ (ap (flat size) (sym (packed-F blocked size (t .R) (t .q) B (t .some) (t .many) (t .whole) (parted bodies lengths) each ∙ ap (chunks B) (parted-joined lengths bodies sum)))) h
+
+  pub listed-as : (form f : Form) → form ≡ f → Listed (formatFor f) → Listed (formatFor form)
+  listed-as form f e h = subst (λ (k : Form). Listed (formatFor k)) (sym e) h
+
+  pub listed-V : B ≤ size → Every (fitsAs false B) lengths → Lays g i p (flatLaid size 0 (layFrom false blocked B 0 (parted bodies lengths))) i′ p′ → Listed variable
+  listed-V b fits h =
+      relaid variable _ (sym (packed-V blocked size B (parted bodies lengths) b (subst (Every (fitsAs false B)) (sym (parted-lengths lengths bodies sum)) fits))) h
+
+  pub listed-S : Every (fitsAs true B) lengths → Lays g i p (flatLaid size 0 (layFrom true true B 0 (parted bodies lengths))) i′ p′ → Listed spanned
+  listed-S fits h =
+      relaid spanned _ (sym (packed-S blocked true size B (parted bodies lengths) (subst (Every (fitsAs true B)) (sym (parted-lengths lengths bodies sum)) fits))) h
+
+-- ---- F: block by block
+module _ (g : Geometry) (B size : ℕ) (bodies : List ℕ) where
+  abbrev pub BlocksFrom : List ℕ → Pen → ℕ → List ℕ → List ℕ
+  BlocksFrom i p from tail = laidBy g i p (flat size (chunks B (drop from bodies)) ++ tail)
+
+  -- the next block: B bytes, or what is left
+  cut-at : (t : Bool) (s : List ℕ) → leb B (length s) ≡ t → (take B s ≡ take (cond t B (length s)) s) × (drop B s ≡ drop (cond t B (length s)) s) × (length (take B s) ≡ cond t B (length s))
+  cut-at true s e = (refl, refl, length-take-le B s (leb-true B (length s) e))
+  cut-at false s e =
+      let l = leb-false B (length s) e in
+      let all : take B s ≡ s = take-all B s (omega arith) in
+      let over-end : length s ≤ B = omega arith in
+      let at-end : length s ≤ length s = omega arith in
+      (all ∙ sym (take-all (length s) s at-end), drop-of-length-le s over-end ∙ sym (drop-of-length-le s at-end), ap length all)
+
+  pub block-on : (i i′ : List ℕ) (p p′ : Pen) (from n : ℕ) → 1 ≤ B → B ≤ size → from < length bodies → n ≡ cond (leb B (length bodies - from)) B (length bodies - from)
+      → Lays g i p (packed bodies from n (size - n)) i′ p′ → (tail : List ℕ) → BlocksFrom i p from tail ≡ BlocksFrom i′ p′ (from + n) tail
+  unfolding flat
+  block-on i i′ p p′ from n b z l e h tail =
+      let s = drop from bodies in
+      let ls : length s ≡ length bodies - from = length-drop from bodies in
+      let k = cut-at (leb B (length s)) s refl in
+      let en : cond (leb B (length s)) B (length s) ≡ n = ap (λ (q : ℕ). cond (leb B q) B q) ls ∙ sym e in
+      let front : take B s ≡ take n s = k .0 ∙ ap (λ (q : ℕ). take q s) en in
+      let back : drop B s ≡ drop (from + n) bodies = k .1 ∙ (ap (λ (q : ℕ). drop q s) en ∙ drop-drop n from bodies) in
+      let next : chunks B s ≡ take B s ∷ chunks B (drop (from + n) bodies) = chunks-next B s b (omega arith) ∙ ap (λ (y : List ℕ). take B s ∷ chunks B y) back in
+      let one : flat size (chunks B s) ≡ packed bodies from n (size - n) ++ flat size (chunks B (drop (from + n) bodies)) =
+      ap (flat size) next
+      ∙ ap (λ (y : List ℕ). y ++ flat size (chunks B (drop (from + n) bodies))) (filled-by size n (take B s) (k .2 ∙ en) ∙ ap (λ (y : List ℕ). y ++ fill (size - n)) front) in
+      one-laid g i i′ p p′ (packed bodies from n (size - n)) h (flat size (chunks B s)) (flat size (chunks B (drop (from + n) bodies))) tail one
+
+  pub blocks-end : (i : List ℕ) (p : Pen) (from : ℕ) → length bodies ≤ from → (tail : List ℕ) → BlocksFrom i p from tail ≡ laidBy g i p tail
+  unfolding flat
+  blocks-end i p from l tail =
+      ap (λ (s : List ℕ). laidBy g i p (flat size (chunks B s) ++ tail)) (drop-of-length-le bodies l)
+      ∙ ap (λ (cs : List (List ℕ)). laidBy g i p (flat size cs ++ tail)) (chunks-none B)
+
+-- a block has a byte or more
+pub least-some-of : (B left n : ℕ) → 1 ≤ B → n ≡ cond (leb B left) B left → 1 ≤ left → 1 ≤ n
+least-some-of B left n b e l = subst (λ (k : ℕ). 1 ≤ k) (sym e) (cond-low (leb B left) B left 1 (λ _. b) (λ _. l))
+
+pub tiled-some : (B : ℕ) (lengths : List ℕ) → Tiled B lengths → 1 ≤ B
+tiled-some B lengths t = omega (arith, t .some, t .whole, mul-le-mul-right (t .R) (t .many))

@@ -1,15 +1,16 @@
 -- What is still to be laid of a list of records, from some point of a block on, as it will stand over the block's records.
 -- Assumes nothing.
-use Prim.Native.Nat.{ℕ, suc, _<_, _≤_}
+use Prim.Native.Nat.{ℕ, zero, suc, _+_, _*_, _<_, _≤_}
 use mathlib.Core.Path.{_≡_}
 use mathlib.Core.Bool.{Bool, true, false, cond}
 use mathlib.Core.List.{List, [], _∷_, _++_}
-use lib.ListN.{length}
+use lib.ListN.{length, take, drop}
 use lib.Dec.{leb}
-use Rattle.standard.specs.Labels.{Format, fixed, variable, spanned}
 use Rattle.standard.specs.Packing.{Laid, fill, placeIf, recordV, least, startIf, spread}
 use Rattle.standard.specs.Writing.{filledTo}
 use Rattle.standard.specs.declared.Geometry.{Geometry}
+use Rattle.promises.specs.Lists.{Every}
+use Rattle.promises.specs.NeededLaws.{leastFor}
 use Rattle.filling.specs.Poured.{flat, laidBy, Placed, Lays}
 use Rattle.laying.specs.declared.Shape.{Shape}
 use Rattle.laying.specs.declared.Desk.{Desk}
@@ -19,22 +20,38 @@ use Rattle.laying.specs.declared.Desk.{Desk}
 abbrev pub flatLaid : ℕ → ℕ → Laid → List ℕ
 flatLaid size rest l = filledTo rest (l .here) ++ flat size (l .later)
 
--- One record laid where `room` is left of the current block, and what follows. `joined`: the next one may stand in the same block, which "V unblocked: one to a
--- block" rules out.
-abbrev pub layRecord : Format → Bool → ℕ → ℕ → List ℕ → (ℕ → Laid) → Laid
-layRecord fixed joined B room x more = placeIf (leb (length x) room) B room x (λ room′. more (cond joined room′ 0))
-layRecord variable joined B room x more = placeIf (leb (length (recordV x)) room) B room (recordV x) (λ room′. more (cond joined room′ 0))
-layRecord spanned joined B room x more = startIf (leb (least x) room) B room (λ room′. spread (suc (length x)) B false room′ x more)
+-- One record of V, or of S if `spanned`, laid where `room` is left of the current block, and what follows. `joined`: the next one may stand in the same block,
+-- which "V unblocked: one to a block" rules out.
+abbrev pub layRecord : Bool → Bool → ℕ → ℕ → List ℕ → (ℕ → Laid) → Laid
+layRecord false joined B room x more = placeIf (leb (length (recordV x)) room) B room (recordV x) (λ room′. more (cond joined room′ 0))
+layRecord true joined B room x more = startIf (leb (least x) room) B room (λ room′. spread (suc (length x)) B false room′ x more)
 
-unfoldable pub layFrom : Format → Bool → ℕ → ℕ → List (List ℕ) → Laid
+unfoldable pub layFrom : Bool → Bool → ℕ → ℕ → List (List ℕ) → Laid
 layFrom f joined B room [] = record { here = []; later = []; unused = room }
 layFrom f joined B room (x ∷ xs) = layRecord f joined B room x (λ room′. layFrom f joined B room′ xs)
 
--- F: "B/R to a block"; V: "blocked: into the current block if it fits"; S goes on wherever it stands
-abbrev pub joins : Format → Bool → Bool
-joins fixed blocked = true
-joins variable blocked = blocked
-joins spanned blocked = true
+-- so many bytes of a body can be laid
+abbrev pub fitsAs : Bool → ℕ → ℕ → Type 0
+fitsAs false B n = 4 + n ≤ B
+fitsAs true B n = leastFor n ≤ B
+
+-- F: "B/R to a block", so a block is B bytes of the bodies joined. (The first argument bounds the number of blocks.)
+unfoldable pub chunked : ℕ → ℕ → List ℕ → List (List ℕ)
+chunked zero B s = []
+chunked (suc n) B [] = []
+chunked (suc n) B (b ∷ s) = take B (b ∷ s) ∷ chunked n B (drop B (b ∷ s))
+
+abbrev pub chunks : ℕ → List ℕ → List (List ℕ)
+chunks B s = chunked (length s) B s
+
+-- every record of F has R bytes, and B is a multiple of them
+pub record Tiled (B : ℕ) (lengths : List ℕ) : Type 0 where
+  pub R : ℕ
+  pub some : 1 ≤ R
+  pub q : ℕ
+  pub many : 1 ≤ q
+  pub whole : B ≡ q * R
+  pub each : Every (λ n. n ≡ R) lengths
 
 -- B bytes of content stand in the block's physical records
 abbrev pub Shaped : Shape → Type 0

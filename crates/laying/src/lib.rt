@@ -5,6 +5,7 @@ use extents::Cursor;
 use fields::wide16;
 use filling::Pen;
 use filling::begin;
+use filling::least;
 use filling::put;
 use filling::put_length;
 use filling::put_segment;
@@ -16,18 +17,18 @@ ghost use mathlib.Core.Bool.{true, false, cond};
 ghost use mathlib.Core.List.{_++_};
 ghost use Prim.Native.Nat.{suc, _+_, _*_, _<_, _≤_};
 ghost use lib.ListN.{length, take, drop};
-ghost use Rattle.standard.specs.Labels.{fixed, variable, spanned};
 ghost use Rattle.standard.specs.Packing.{fill, roleByte, segment, segmentRole, spread, packIn};
 ghost use Rattle.standard.specs.Writing.{total, parted};
-ghost use Rattle.promises.specs.NeededLaws.{leastFor, FitsIn, EachFits};
+ghost use Rattle.promises.specs.Lists.{Every};
+ghost use Rattle.promises.specs.NeededLaws.{leastFor, EachFits};
 ghost use Rattle.labels.specs.Forms.{formatFor};
 ghost use Rattle.extents.specs.Cursors.{legalAt, standing};
 ghost use Rattle.filling.specs.Poured.{poured, flat, Sized, Placed, Lays};
-ghost use Rattle.laying.specs.Ahead.{layFrom, layRecord, joins, flatLaid, Shaped, Ready, HasRoom, Steps};
+ghost use Rattle.laying.specs.Ahead.{layFrom, layRecord, fitsAs, chunks, Tiled, flatLaid, Shaped, Ready, HasRoom, Steps};
 
-// How a list is laid: the format; whether a record may stand behind another in its block; B, and the bytes of a block's m physical records.
+// How records are laid one by one: as V, or as S; whether one may stand behind another in its block; B, and the bytes of a block's m physical records.
 pub struct Shape {
-    pub form: Form,
+    pub spanned: bool,
     pub joined: bool,
     pub B: u64,
     pub size: u64,
@@ -67,32 +68,6 @@ fn kept(joined: bool, room: u64) -> u64
     0
 }
 
-// A record of F.
-fn lay_fixed(
-    g: Geometry,
-    image: &mut [u8],
-    s: Shape,
-    d: Desk,
-    bodies: &[u8],
-    from: u64,
-    n: u64,
-) -> Desk
-    requires { ⌜ (Shaped s) × (Ready g (now image) s d) × (n ≤ s .B) × (from + n ≤ length (now bodies)) ⌝ }
-    ensures { λ r. ⌜ Steps g s (now (image .entry)) d (λ more. layRecord fixed (s .joined) (s .B) (d .room) (take n (drop from (now (bodies .entry)))) more) (now (image .exit)) r ⌝ }
-{
-    let joined = s.joined;
-    let b = room_for(g, image, s, d, n);
-    let p = b.p;
-    let room = b.room;
-    let rest = b.rest;
-    let q = put(g, image, p, bodies, from, n, 0);
-    Desk {
-        p: q,
-        room: kept(joined, room - n),
-        rest: rest - n,
-    }
-}
-
 // A record of V, with its control word.
 fn lay_variable(
     g: Geometry,
@@ -104,7 +79,7 @@ fn lay_variable(
     n: u64,
 ) -> Desk
     requires { ⌜ (Shaped s) × (Ready g (now image) s d) × (4 + n ≤ s .B) × (from + n ≤ length (now bodies)) ⌝ }
-    ensures { λ r. ⌜ Steps g s (now (image .entry)) d (λ more. layRecord variable (s .joined) (s .B) (d .room) (take n (drop from (now (bodies .entry)))) more) (now (image .exit)) r ⌝ }
+    ensures { λ r. ⌜ Steps g s (now (image .entry)) d (λ more. layRecord false (s .joined) (s .B) (d .room) (take n (drop from (now (bodies .entry)))) more) (now (image .exit)) r ⌝ }
 {
     let joined = s.joined;
     let size = 4 + n;
@@ -205,13 +180,13 @@ fn lay_spanned(
     n: u64,
 ) -> Desk
     requires { ⌜ (Shaped s) × (Ready g (now image) s d) × (leastFor n ≤ s .B) × (from + n ≤ length (now bodies)) × (n < 4294967296) ⌝ }
-    ensures { λ r. ⌜ Steps g s (now (image .entry)) d (λ more. layRecord spanned (s .joined) (s .B) (d .room) (take n (drop from (now (bodies .entry)))) more) (now (image .exit)) r ⌝ }
+    ensures { λ r. ⌜ Steps g s (now (image .entry)) d (λ more. layRecord true (s .joined) (s .B) (d .room) (take n (drop from (now (bodies .entry)))) more) (now (image .exit)) r ⌝ }
 {
     let b = room_for(g, image, s, d, least_for(n));
     spread(g, image, s, b, bodies, from, n)
 }
 
-// A record of any format.
+// A record of V or of S.
 fn lay_record(
     g: Geometry,
     image: &mut [u8],
@@ -221,15 +196,13 @@ fn lay_record(
     from: u64,
     n: u64,
 ) -> Desk
-    requires { ⌜ (Shaped s) × (Ready g (now image) s d) × (FitsIn (formatFor (s .form)) (s .B) n) × (from + n ≤ length (now bodies)) × (n < 4294967296) ⌝ }
-    ensures { λ r. ⌜ Steps g s (now (image .entry)) d (λ more. layRecord (formatFor (s .form)) (s .joined) (s .B) (d .room) (take n (drop from (now (bodies .entry)))) more) (now (image .exit)) r ⌝ }
+    requires { ⌜ (Shaped s) × (Ready g (now image) s d) × (fitsAs (s .spanned) (s .B) n) × (from + n ≤ length (now bodies)) × (n < 4294967296) ⌝ }
+    ensures { λ r. ⌜ Steps g s (now (image .entry)) d (λ more. layRecord (s .spanned) (s .joined) (s .B) (d .room) (take n (drop from (now (bodies .entry)))) more) (now (image .exit)) r ⌝ }
 {
-    let form = s.form;
-    match form {
-        Form::Fixed => lay_fixed(g, image, s, d, bodies, from, n),
-        Form::Variable => lay_variable(g, image, s, d, bodies, from, n),
-        Form::Spanned => lay_spanned(g, image, s, d, bodies, from, n),
+    if s.spanned {
+        return lay_spanned(g, image, s, d, bodies, from, n);
     }
+    lay_variable(g, image, s, d, bodies, from, n)
 }
 
 // All records of a list, from no block and no room on, and the fill behind the last.
@@ -241,8 +214,8 @@ fn lay_records(
     bodies: &[u8],
     lengths: &[u32],
 ) -> Pen
-    requires { ⌜ (Shaped s) × (Placed g (now image) start) × (EachFits (formatFor (s .form)) (s .B) (now lengths)) × (total (now lengths) ≡ length (now bodies)) ⌝ }
-    ensures { λ r. ⌜ Lays g (now (image .entry)) start (flatLaid (s .size) 0 (layFrom (formatFor (s .form)) (s .joined) (s .B) 0 (parted (now (bodies .entry)) (now (lengths .entry))))) (now (image .exit)) r ⌝ }
+    requires { ⌜ (Shaped s) × (Placed g (now image) start) × (Every (fitsAs (s .spanned) (s .B)) (now lengths)) × (total (now lengths) ≡ length (now bodies)) ⌝ }
+    ensures { λ r. ⌜ Lays g (now (image .entry)) start (flatLaid (s .size) 0 (layFrom (s .spanned) (s .joined) (s .B) 0 (parted (now (bodies .entry)) (now (lengths .entry))))) (now (image .exit)) r ⌝ }
 {
     let mut d = Desk {
         p: start,
@@ -261,14 +234,65 @@ fn lay_records(
     put(g, image, p, b"", 0, 0, d.rest)
 }
 
-// Whether the next record may stand behind one in the same block: "V unblocked: one to a block".
-fn joins(form: Form, blocked: bool) -> bool
-    ensures { λ r. ⌜ r ≡ joins (formatFor form) blocked ⌝ }
+// F: "B/R to a block", so a block is B bytes of the bodies joined, and its fill.
+fn lay_blocks(g: Geometry, image: &mut [u8], start: Pen, B: u64, size: u64, bodies: &[u8]) -> Pen
+    requires { ⌜ (Placed g (now image) start) × (1 ≤ B) × (B ≤ size) × (size < 4294967296) ⌝ }
+    ensures { λ r. ⌜ Lays g (now (image .entry)) start (flat size (chunks B (now (bodies .entry)))) (now (image .exit)) r ⌝ }
+{
+    let end = bodies.len() as u64;
+    let mut p = start;
+    let mut from = 0;
+    while from < end {
+        let n = least(B, end - from);
+        p = put(g, image, p, bodies, from, n, size - n);
+        from += n;
+    }
+    p
+}
+
+// The list as it is packed into blocks, by its format.
+fn lay_list(
+    g: Geometry,
+    image: &mut [u8],
+    p: Pen,
+    form: Form,
+    blocked: bool,
+    B: u64,
+    size: u64,
+    bodies: &[u8],
+    lengths: &[u32],
+) -> Pen
+    requires { ⌜ (Placed g (now image) p) × (B ≤ size) × (size < 4294967296) × (EachFits (formatFor form) B (now lengths)) × (form ≡ Form.Fixed → Tiled B (now lengths)) × (total (now lengths) ≡ length (now bodies)) ⌝ }
+    ensures { λ r. ⌜ Lays g (now (image .entry)) p (flat size (packIn (formatFor form) blocked B (parted (now (bodies .entry)) (now (lengths .entry))) .contents)) (now (image .exit)) r ⌝ }
 {
     match form {
-        Form::Fixed => true,
-        Form::Variable => blocked,
-        Form::Spanned => true,
+        Form::Fixed => lay_blocks(g, image, p, B, size, bodies),
+        Form::Variable => lay_records(
+            g,
+            image,
+            Shape {
+                spanned: false,
+                joined: blocked,
+                B: B,
+                size: size,
+            },
+            p,
+            bodies,
+            lengths,
+        ),
+        Form::Spanned => lay_records(
+            g,
+            image,
+            Shape {
+                spanned: true,
+                joined: true,
+                B: B,
+                size: size,
+            },
+            p,
+            bodies,
+            lengths,
+        ),
     }
 }
 
@@ -284,7 +308,7 @@ pub fn store(
     bodies: &[u8],
     lengths: &[u32],
 )
-    requires { ⌜ (Sized g (now image)) × (legalAt g c ≡ true) × (1 ≤ m) × (B ≤ m * g .P) × (m * g .P < 4294967296) × (EachFits (formatFor form) B (now lengths)) × (total (now lengths) ≡ length (now bodies)) ⌝ }
+    requires { ⌜ (Sized g (now image)) × (legalAt g c ≡ true) × (1 ≤ m) × (B ≤ m * g .P) × (m * g .P < 4294967296) × (EachFits (formatFor form) B (now lengths)) × (form ≡ Form.Fixed → Tiled B (now lengths)) × (total (now lengths) ≡ length (now bodies)) ⌝ }
     ensures { λ r. ⌜ now (image .exit) ≡ poured g (standing g (now (image .entry)) c) (flat (m * g .P) (packIn (formatFor form) blocked B (parted (now (bodies .entry)) (now (lengths .entry))) .contents)) (now (image .entry)) ⌝ }
 {
     if lengths.len() == 0 {
@@ -293,12 +317,7 @@ pub fn store(
     if c.left == 0 {
         return;
     }
-    let s = Shape {
-        form: form,
-        joined: joins(form, blocked),
-        B: B,
-        size: m * wide16(g.P),
-    };
+    let size = m * wide16(g.P);
     let p = begin(g, image, c);
-    lay_records(g, image, s, p, bodies, lengths);
+    lay_list(g, image, p, form, blocked, B, size, bodies, lengths);
 }

@@ -1,19 +1,21 @@
 -- The plan carried out is the image afterwards.
 -- Assumes nothing.
-use Prim.Native.Nat.{ℕ, _*_, _<_, _≤_}
+use Prim.Native.Nat.{ℕ, _+_, _*_, _/_, _<_, _≤_}
 use mathlib.Core.Path.{_≡_, refl, sym, ap, subst, _∙_}
-use mathlib.Core.Bool.{true}
+use mathlib.Core.Bool.{true, false}
 use mathlib.Core.List.{List, [], _∷_}
 use lib.ListN.{length}
 use native.Mathlib.Omega.{arith}
-use native.Mathlib.Nat.{mul-le-mul-right, div-le-self}
+use borrow.Author.Tests.{eqb-true, not-false}
+use native.Mathlib.Nat.{mul-le-mul-right, div-le-self, le-div-iff-mul-le, div-add-mod'}
 use lib.Dec.{ltb}
 use Rattle.standard.specs.Layout.{labelAt}
-use Rattle.standard.specs.Labels.{Format, formatOf, isBlocked, blockLength}
+use Rattle.standard.specs.Labels.{Format, fixed, formatOf, isBlocked, blockLength, recordLength}
+use Rattle.standard.specs.Refusals.{refuse}
 use Rattle.standard.specs.Files.{extent, goodRecords, recordsToBlock}
 use Rattle.standard.specs.Judgement.{judged}
 use Rattle.standard.specs.Packing.{packIn, pack}
-use Rattle.standard.specs.Writing.{Outcome, total, parted, packing, writeRefusal, setLabel, imageWith, outcome, written, imageAfter}
+use Rattle.standard.specs.Writing.{Outcome, wrongIn, wrongLength, lengthsFrom, total, parted, packing, writeRefusal, setLabel, imageWith, outcome, written, imageAfter}
 use Rattle.standard.specs.declared.Geometry.{Geometry}
 use Rattle.standard.specs.declared.Address.{Address}
 use Rattle.standard.specs.declared.Refusal.{Refusal}
@@ -23,7 +25,8 @@ use Rattle.standard.specs.declared.Checked.{Checked}
 use Rattle.standard.specs.declared.Written.{Written}
 use Rattle.standard.specs.declared.Written.the-variants.{Unwritten, Blocks}
 use Rattle.promises.specs.Basics.{cond-elim, never}
-use Rattle.promises.specs.LabelRules.{block-fits}
+use Rattle.promises.specs.LabelRules.{Rules, Shape, shape, isF, isV, isS, block-fits, fixed-low, fixed-high, fixed-whole}
+use Rattle.promises.specs.Judging.{stop-first, stop-rest}
 use Rattle.promises.specs.Lists.{Every}
 use Rattle.promises.specs.AcceptedLaws.{image-length}
 use Rattle.promises.specs.AcceptedWrite.{passing, outcome-is, label-range, stored, stored-whole}
@@ -33,6 +36,7 @@ use Rattle.promises.specs.StoredBlocks.{sizes-fitting}
 use Rattle.promises.specs.WrittenLabel.{old-rules, packing-right, records-some}
 use Rattle.promises.specs.NeededLaws.{EachFits, each-fits}
 use Rattle.promises.specs.ExtentAddresses.{good-legal}
+use Rattle.labels.specs.declared.Form.the-variants.{Fixed}
 use Rattle.labels.specs.Forms.{formIn, formatFor, format-back}
 use Rattle.layout.specs.Room.{Room}
 use Rattle.extents.specs.Cursors.{legalAt, goodFrom, standing}
@@ -41,6 +45,7 @@ use Rattle.volume.proofs.NumberLaws.{slotted-of}
 use Rattle.volume.proofs.FindLaws.{room-there}
 use Rattle.files.proofs.Blocks.{extent-on}
 use Rattle.filling.specs.Poured.{poured, flat, Sized}
+use Rattle.laying.specs.Ahead.{Tiled}
 use Rattle.filling.proofs.BlockLaws.{pour-blocks}
 use Rattle.ending.proofs.EndSizes.{end-small}
 use Rattle.writing.specs.Plans.{planFor, planOf, planOr, planIn, Accepted}
@@ -52,6 +57,30 @@ use Rattle.writing.specs.declared.Planned.the-variants.{Stop, Go}
 records-few : (g : Geometry) (h : List ℕ) → blockLength h < 65536 → recordsToBlock g h ≤ 65536
 unfolding recordsToBlock
 records-few g h b = cond-elim (λ n. n ≤ 65536) (ltb (g .P) (blockLength h)) (λ _. omega (arith, div-le-self (blockLength h) (g .P))) (λ _. omega arith)
+
+-- F: every record has R bytes, "a divisor of B"
+lengths-R : (h : List ℕ) → formatOf h ≡ fixed → (i : ℕ) (lengths : List ℕ) → lengthsFrom h i lengths ≡ Passed → Every (λ n. n ≡ recordLength h) lengths
+unfolding lengthsFrom wrongLength
+lengths-R h f i [] p = tt
+lengths-R h f i (n ∷ lengths) p =
+    let q : wrongIn fixed (blockLength h) (recordLength h) n ≡ false = rw f at (stop-first (wrongLength h n) _ (lengthsFrom h (i + 1) lengths) p) in
+    (eqb-true n (recordLength h) (not-false _ q), lengths-R h f (i + 1) lengths (stop-rest (wrongLength h n) (refuse 26 i) (lengthsFrom h (i + 1) lengths) p))
+
+tiled : (g : Geometry) (h lengths : List ℕ) → Rules g h → lengthsFrom h 0 lengths ≡ Passed → formIn (formatOf h) ≡ Fixed → Tiled (blockLength h) lengths
+tiled g h lengths r p e = go (shape h (r .r40))
+  where
+    go : Shape h → Tiled (blockLength h) lengths
+    go (isF f t) =
+        record {
+          R = recordLength h;
+          some = fixed-low g h r t;
+          q = blockLength h / recordLength h;
+          many = le-div-iff-mul-le (fixed-low g h r t) .1 (omega (arith, fixed-high g h r t));
+          whole = omega (arith, div-add-mod' (blockLength h) (recordLength h), fixed-whole g h r t);
+          each = lengths-R h f 0 lengths p;
+        }
+    go (isV f t) = never (cc)
+    go (isS f t) = never (cc)
 
 -- ---- AN ACCEPTED WRITE
 module _ (g : Geometry) (image : List ℕ) (slot : ℕ) (bodies lengths : List ℕ) (j : judged image ≡ Volume g) (w : writeRefusal g image slot bodies lengths ≡ Passed) where
@@ -75,7 +104,7 @@ module _ (g : Geometry) (image : List ℕ) (slot : ℕ) (bodies lengths : List �
   -- what the layers below ask
   abbrev Storable : Plan → Type 0
   Storable p =
-      (1 ≤ p .m) × (p .B ≤ p .m * g .P) × (p .m * g .P < 4294967296) × EachFits (formatFor (p .form)) (p .B) lengths × (total lengths ≡ length bodies)
+      (1 ≤ p .m) × (p .B ≤ p .m * g .P) × (p .m * g .P < 4294967296) × EachFits (formatFor (p .form)) (p .B) lengths × (p .form ≡ Fixed → Tiled (p .B) lengths) × (total lengths ≡ length bodies)
 
   storable : Storable thePlan
   unfolding planFor
@@ -86,6 +115,7 @@ module _ (g : Geometry) (image : List ℕ) (slot : ℕ) (bodies lengths : List �
         block-fits g theLabel r,
         omega (arith, mul-le-mul-right (g .P) (records-few g theLabel (block-low image g slot j (k .labelled) (k .known) bodies lengths)), numbers-of image g j .size-high),
         subst (λ (f : Format). EachFits f (blockLength theLabel) lengths) (sym (format-back (formatOf theLabel))) (each-fits g theLabel r 0 lengths (k .fits)),
+        tiled g theLabel lengths r (k .fits),
         k .sum,
       )
 

@@ -8,9 +8,8 @@ use lib.ListN.{length, getD, drop}
 use native.Mathlib.Omega.{arith}
 use denote.Ref.{now}
 use Rattle.standard.specs.Writing.{total}
-use Rattle.labels.specs.Forms.{formatFor}
-use Rattle.promises.specs.NeededLaws.{EachFits}
-use Rattle.laying.specs.Ahead.{Ready}
+use Rattle.promises.specs.Lists.{Every}
+use Rattle.laying.specs.Ahead.{fitsAs, Ready}
 use Rattle.laying.proofs.DeskLaws.{Behind, record-on, record-fits, records-end}
 use Rattle.laying.proofs.lay_records.Statement.{statement}
 use Rattle.laying.proofs.lay_records.Tie as tie
@@ -22,7 +21,7 @@ Inv-loop g image₀ s bodies lengths d₀ i₀ from₀ t12 image d i from =
     × (length image ≡ length image₀)
     × (i ≤ length lengths)
     × (total (drop i lengths) + from ≡ length bodies)
-    × EachFits (formatFor (s .form)) (s .B) (drop i lengths)
+    × Every (fitsAs (s .spanned) (s .B)) (drop i lengths)
 
 abbrev μ-loop : tie.MeasureT-loop
 μ-loop g image₀ s bodies lengths d₀ i₀ from₀ t12 image d i from = length lengths - i

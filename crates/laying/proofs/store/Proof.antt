@@ -5,74 +5,67 @@ use mathlib.Core.Path.{_≡_, ap, subst}
 use native.Mathlib.Omega.{arith}
 use native.Mathlib.Nat.{mul-le-mul-right}
 use denote.Ref.{now}
+use Rattle.standard.specs.Packing.{packIn}
 use Rattle.standard.specs.Writing.{parted}
 use Rattle.labels.specs.Forms.{formatFor}
-use Rattle.filling.specs.Poured.{Lays}
-use Rattle.laying.specs.Ahead.{flatLaid, layFrom}
+use Rattle.filling.specs.Poured.{flat, Lays}
 use Rattle.laying.proofs.DeskLaws.{stored-none, stored-nowhere, stored-all}
 use borrow.Author.Needs.{needs}
 use Rattle.laying.proofs.store.Statement.{statement}
 use Rattle.laying.proofs.store.Tie as tie
 
--- src/lib.rt:485:9
+-- src/lib.rt:315:9
 returns : tie.Need-returns
 returns c =
     let a = c .before .before .before .before .args in
     stored-none (a .g) (now (a .image)) (a .c) (formatFor (a .form)) (a .blocked) (a .m * a .g .P) (a .B) (now (a .bodies)) (now (a .lengths)) (c .if1 .taken)
 
--- src/lib.rt:488:9
+-- src/lib.rt:318:9
 returns-2 : tie.Need-returns-2
 returns-2 c =
     let a = c .before .before .before .before .before .before .args in
     stored-nowhere (a .g) (now (a .image)) (a .c) (formatFor (a .form)) (a .blocked) (a .m * a .g .P) (a .B) (now (a .bodies)) (now (a .lengths)) (c .if2 .taken)
 
--- src/lib.rt:492:17
-joins-requires : tie.Need-joins-requires
-joins-requires c κs = search needs
-
--- src/lib.rt:494:19
+-- src/lib.rt:320:20
 wide16-requires : tie.Need-wide16-requires
 wide16-requires c κs = search needs
 
--- src/lib.rt:494:15
-mul-t15 : tie.Need-mul-t15
-mul-t15 c =
-    let x = c .before .before .before .before .before .before .before .before in
+-- src/lib.rt:320:16
+mul-size : tie.Need-mul-size
+mul-size c =
+    let x = c .before .before .before .before .before .before .before in
     let a = x .args in
     let e : a .m * c .wide16 .result ≡ a .m * a .g .P = ap (λ (k : ℕ). a .m * k) (c .wide16 .ensures .0) in
     omega (arith, e, x .pre .4)
 
--- src/lib.rt:496:9
+-- src/lib.rt:321:9
 begin-requires : tie.Need-begin-requires
 begin-requires c κs = search needs
 
--- src/lib.rt:497:5
-lay-records-requires : tie.Need-lay-records-requires
-lay-records-requires c κs =
-    let x = c .before .before .before .before .before .before .before .before .before .before .before .before .before in
+-- src/lib.rt:322:5
+lay-list-requires : tie.Need-lay-list-requires
+lay-list-requires c κs =
+    let x = c .before .before .before .before .before .before .before .before .before .before .before .before in
     let a = x .args in
     let e : a .m * c .before .before .before .before .before .wide16 .result ≡ a .m * a .g .P = ap (λ (k : ℕ). a .m * k) (c .before .before .before .before .before .wide16 .ensures .0) in
-    ((omega (arith, e, x .pre .3), omega (arith, e, x .pre .4)), c .before .before .before .begin .ensures .1, x .pre .5, x .pre .6)
+    (c .before .before .before .begin .ensures .1, omega (arith, e, x .pre .3), omega (arith, e, x .pre .4), x .pre .5, x .pre .6, x .pre .7)
 
--- src/lib.rt:470:1
+-- src/lib.rt:300:1
 same-length : tie.Need-same-length
 same-length c = search needs
 
--- src/lib.rt:470:1
+-- src/lib.rt:300:1
 returns-3 : tie.Need-returns-3
 returns-3 c =
-    let x = c .before .before .before .before .before .before .before .before .before .before .before .before .before .before .before .before in
+    let x = c .before .before .before .before .before .before .before .before .before .before .before .before .before .before .before in
     let a = x .args in
     let b = c .before .before .before .before .before .before .begin in
-    let t = c .before .before .lay-records in
-    let j = c .before .before .before .before .before .before .before .before .before .joins in
+    let t = c .before .before .lay-list in
     let w = c .before .before .before .before .before .before .before .before .wide16 in
-    let f = formatFor (a .form) in
     let e : a .m * w .result ≡ a .m * a .g .P = ap (λ (k : ℕ). a .m * k) (w .ensures .0) in
     let some : 1 ≤ a .m * a .g .P = omega (arith, x .pre .0 .1, mul-le-mul-right (a .g .P) (x .pre .2)) in
-    stored-all (a .g) (now (a .image)) (a .c) f (a .blocked) (a .m * a .g .P) (a .B) (now (a .bodies)) (now (a .lengths)) (b .last .1 .0) (t .last .1 .0) (b .result) (t .result)
-    (j .result) (j .ensures) some (x .pre .3) (x .pre .5) (x .pre .6) (c .before .before .before .before .before .before .before .before .before .before .before .before .if1 .left) (b .ensures .0)
-    (subst (λ (k : ℕ). Lays (a .g) (b .last .1 .0) (b .result) (flatLaid k 0 (layFrom f (j .result) (a .B) 0 (parted (now (a .bodies)) (now (a .lengths))))) (t .last .1 .0) (t .result)) e (t .ensures))
+    stored-all (a .g) (now (a .image)) (a .c) (formatFor (a .form)) (a .blocked) (a .m * a .g .P) (a .B) (now (a .bodies)) (now (a .lengths)) (b .last .1 .0) (t .last .1 .0) (b .result) (t .result) some (c .before .before .before .before .before .before .before .before .before .before .before .if1 .left) (b .ensures .0)
+    (subst (λ (k : ℕ). Lays (a .g) (b .last .1 .0) (b .result) (flat k (packIn (formatFor (a .form)) (a .blocked) (a .B) (parted (now (a .bodies)) (now (a .lengths))) .contents)) (t .last .1 .0) (t .result)) e (t .ensures))
 
 pub store-spec : {M : Type 1} → statement M
 store-spec =
@@ -80,10 +73,9 @@ store-spec =
     (tie.spec
     returns
     returns-2
-    joins-requires
     wide16-requires
-    mul-t15
+    mul-size
     begin-requires
-    lay-records-requires
+    lay-list-requires
     same-length
     returns-3)
