@@ -10,11 +10,8 @@ use crate::make::sizes::{longest_blocks, longest_record, most_blocks, typical, L
 use crate::model::Call;
 use crate::session::Session;
 use crate::text::address_digits;
-use crate::written::{list_for, Writer};
+use crate::written::{list_for, Writer, MOST_READ};
 use std::io;
-
-/// Records that are read back of each write.
-const MOST_READ: usize = 6;
 
 /// Bodies of so many bytes each, no two alike beside each other.
 pub fn lettered(lengths: &[usize]) -> Vec<Vec<u8>> {
@@ -137,7 +134,7 @@ fn written_to(session: &mut Session, plain: Plain, held: usize, r: usize) -> io:
     counts.dedup();
     for count in counts {
         let call = write_call(2, &lettered(&vec![r; count]));
-        writer.write_and_read(call, 3)?;
+        writer.write_and_read(call, MOST_READ)?;
     }
     Ok(())
 }

@@ -10,7 +10,7 @@ use crate::make::volume_cases::Made;
 use crate::make::write_cases;
 use crate::model::Call;
 use crate::session::Session;
-use crate::written::Writer;
+use crate::written::{Writer, MOST_READ};
 use std::io;
 
 /// One write on an image.
@@ -224,7 +224,7 @@ fn drawn(session: &mut Session, seed: u64, count: usize, largest: usize) -> io::
     for number in 0..count {
         let mut rng = Rng::for_case(seed ^ 0x19, number as u64);
         let (image, call) = FAMILIES[number % FAMILIES.len()](&mut rng, largest);
-        Writer::new(session, &mut rng, "drawn write", image).write_and_read(call, 4)?;
+        Writer::new(session, &mut rng, "drawn write", image).write_and_read(call, MOST_READ)?;
     }
     Ok(())
 }

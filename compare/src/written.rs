@@ -20,8 +20,8 @@ use std::io;
 /// Longer files are asked for so many of their records only, and files beside
 /// the written one for fewer. All their records are read by the independent
 /// program.
-const MOST_READ: usize = 40;
-const MOST_READ_BESIDE: usize = 12;
+pub const MOST_READ: usize = 1000;
+const MOST_READ_BESIDE: usize = 60;
 
 /// A volume on its way through writes.
 pub struct Writer<'a> {

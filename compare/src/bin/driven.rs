@@ -26,7 +26,7 @@ Runs the driver by COMMAND and compares with it
 - writes: of every two lengths about the bounds of a block, on every extent of a small volume, of every format on volumes
   counted out, on N/8 drawn volumes, on the largest ones, each by several lists, one over the other; behind each that is
   done every byte of the image is accounted for, the file is read back, all other files are read, judgement, free records
-  and names are asked again; of long files some records;
+  and names are asked again; of files of more than a thousand records some;
 - refused writes: each refusal, every set of them at once, wrong sums and lengths, N/8 bad images; and N/4 drawn
   writes, refused or done.
 What calls of reading, salvage and writing have reached is printed; all of the table has to be. The last line is
