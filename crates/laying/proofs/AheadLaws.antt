@@ -4,8 +4,8 @@ use Prim.Native.Nat.{ℕ, zero, suc, _+_, _-_, _*_, _<_, _≤_}
 use mathlib.Core.Path.{_≡_, refl, sym, ap, _∙_}
 use mathlib.Core.Bool.{Bool, true, false, cond}
 use mathlib.Core.List.{List, [], _∷_, _++_, map, append-assoc}
-use lib.ListN.{length, take, drop, length-append, length-drop}
-use lib.Seq.{length-take-le, take-nil, drop-nil, take-append-add, drop-append-add}
+use lib.ListN.{length, length-replicate, take, drop, length-append, length-drop}
+use lib.Seq.{length-take-le, take-nil, drop-nil}
 use lib.Dec.{leb}
 use native.Mathlib.Omega.{arith}
 use native.Mathlib.Nat.{not-suc-le-zero, sub-zero, mul-le-mul-right}
@@ -18,6 +18,7 @@ use Rattle.promises.specs.NeededLaws.{leastFor}
 use Rattle.promises.specs.WritingPromises.{joined}
 use Rattle.promises.specs.WritingLaws.{segment-length, recordV-length, least-of, least-five}
 use Rattle.filling.specs.Poured.{flat}
+use Rattle.filling.proofs.RunLaws.{take-over, drop-over}
 use Rattle.laying.specs.Ahead.{flatLaid, layFrom, fitsAs, chunked, chunks}
 
 -- ---- fill
@@ -29,10 +30,6 @@ fill-add (suc m) n =
     let z : suc m + n ≡ suc (m + n) = omega arith in
     rw z (ap (λ (s : List ℕ). 0 ∷ s) (fill-add m n))
 
-pub fill-length : (n : ℕ) → length (fill n) ≡ n
-fill-length zero = refl
-fill-length (suc n) = ap suc (fill-length n)
-
 filled-behind : (size : ℕ) (x y : List ℕ) → filledTo size (x ++ y) ≡ x ++ filledTo (size - length x) y
 unfolding filledTo
 filled-behind size x y =
@@ -42,7 +39,7 @@ filled-behind size x y =
 fill-filled : (size n : ℕ) → n ≤ size → filledTo size (fill n) ≡ fill size
 unfolding filledTo
 fill-filled size n h =
-    let e : n + (size - length (fill n)) ≡ size = omega (arith, fill-length n) in
+    let e : n + (size - length (fill n)) ≡ size = omega (arith, length-replicate {A = ℕ} n 0) in
     fill-add n (size - length (fill n)) ∙ ap fill e
 
 pub filled-by : (size n : ℕ) (x : List ℕ) → length x ≡ n → filledTo size x ≡ x ++ fill (size - n)
@@ -268,17 +265,6 @@ chunks-next B (x ∷ s) b h =
 pub chunks-none : (B : ℕ) → chunks B [] ≡ []
 unfolding chunked
 chunks-none B = refl
-
--- bytes, and so many more
-take-over : (n : ℕ) (x y : List ℕ) → length x ≤ n → take n (x ++ y) ≡ x ++ take (n - length x) y
-take-over n x y h =
-    let e : n ≡ length x + (n - length x) = omega arith in
-    ap (λ (k : ℕ). take k (x ++ y)) e ∙ take-append-add x y (n - length x)
-
-drop-over : (n : ℕ) (x y : List ℕ) → length x ≤ n → drop n (x ++ y) ≡ drop (n - length x) y
-drop-over n x y h =
-    let e : n ≡ length x + (n - length x) = omega arith in
-    ap (λ (k : ℕ). drop k (x ++ y)) e ∙ drop-append-add x y (n - length x)
 
 one-less : (q R : ℕ) → 1 ≤ q → (q - 1) * R ≡ q * R - R
 one-less zero R h = absurd (not-suc-le-zero h)

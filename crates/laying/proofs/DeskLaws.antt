@@ -4,7 +4,7 @@ use Prim.Native.Nat.{ℕ, zero, suc, _+_, _-_, _<_, _≤_}
 use mathlib.Core.Path.{_≡_, refl, sym, ap, subst, _∙_}
 use mathlib.Core.Bool.{Bool, true, false, cond}
 use mathlib.Core.List.{List, [], _∷_, _++_, append-assoc, append-nil}
-use lib.ListN.{length, getD, take, drop, length-drop, length-append, drop-of-length-le}
+use lib.ListN.{length, length-replicate, getD, take, drop, length-drop, length-append, drop-of-length-le}
 use lib.Seq.{length-take-le, drop-drop, drop-cons, take-all, take-take}
 use lib.Dec.{leb}
 use native.Mathlib.Omega.{arith}
@@ -34,7 +34,7 @@ use Rattle.filling.specs.declared.Pen.{Pen}
 use Rattle.laying.specs.Ahead.{flatLaid, layRecord, layFrom, fitsAs, chunks, Tiled, Shaped, Ready, HasRoom, Steps}
 use Rattle.laying.specs.declared.Shape.{Shape}
 use Rattle.laying.specs.declared.Desk.{Desk}
-use Rattle.laying.proofs.AheadLaws.{filled-none, filled-by, packed-F, packed-V, packed-S, chunks-next, chunks-none, every-lengths, fill-length, place-step, start-step, spread-here, spread-on, least-for}
+use Rattle.laying.proofs.AheadLaws.{filled-none, filled-by, packed-F, packed-V, packed-S, chunks-next, chunks-none, every-lengths, place-step, start-step, spread-here, spread-on, least-for}
 
 -- two lots of bytes, and what follows
 module _ (g : Geometry) (i i₁ i₂ : List ℕ) (p p₁ p₂ : Pen) (xs ys : List ℕ) (h : Lays g i p xs i₁ p₁) (k : Lays g i₁ p₁ ys i₂ p₂) where
@@ -276,7 +276,7 @@ some-bytes C (b ∷ bytes) h k = k b bytes
 
 filled-some : (size : ℕ) (c rest : List ℕ) → 1 ≤ size → 1 ≤ length (filledTo size c ++ rest)
 unfolding filledTo
-filled-some size [] rest h = omega (arith, length-append (fill (size - 0)) rest, fill-length (size - 0))
+filled-some size [] rest h = omega (arith, length-append (fill (size - 0)) rest, length-replicate {A = ℕ} (size - 0) 0)
 filled-some size (x ∷ c) rest h = omega arith
 
 packed-some : (f : Format) (blocked : Bool) (size B : ℕ) (x : List ℕ) (xs : List (List ℕ)) → 1 ≤ size → 1 ≤ length (flat size (packIn f blocked B (x ∷ xs) .contents))
