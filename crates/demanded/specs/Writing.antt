@@ -1,7 +1,7 @@
--- THE DEMANDS REACH THE CODE THAT WRITES, for a reader who proves nothing. As Demanded does for reading: the contract of a function that writes says no more
--- than that the answer is `written`, and the image afterwards `imageAfter`; here the promises are said of any function that meets it, whatever its code, and
--- the wrong programs that document 01 names are shown to meet it not. What is read of an image afterwards is read by any function that meets the contract of
--- reading. The lines behind `=` only name the proof. `A → B`: if A then B; `A × B`: both; `A ⊎ B`: one of them; `A → ⊥`: not A.
+-- DEMAND 2 OF FUNCTIONS THAT WRITE, for a reader who proves nothing. As Reading does for those that read: the contract says no more than that the answer is
+-- `written`, and the image afterwards `imageAfter`; here the promises are said of any function that meets it, whatever its code, and the wrong programs that
+-- document 01 names are shown to meet it not. What is read of an image afterwards is read by any function that meets the contract of reading, what is counted
+-- or found by any that meets that. The lines behind `=` only name the proof. `A → B`: if A then B; `A × B`: both; `A ⊎ B`: one of them; `A → ⊥`: not A.
 -- Assumes nothing.
 use Prim.Native.Nat.{ℕ, zero, suc, _+_, _-_, _*_, _<_, _≤_}
 use mathlib.Core.Path.{_≡_, refl, sym, ap, subst, _∙_}
@@ -28,8 +28,11 @@ use Rattle.standard.specs.declared.Address.{Address}
 use Rattle.standard.specs.declared.Place.{Place}
 use Rattle.standard.specs.declared.Refusal.{Refusal}
 use Rattle.standard.specs.declared.Checked.the-variants.{Passed}
+use Rattle.standard.specs.declared.Counted.{Counted}
 use Rattle.standard.specs.declared.Counted.the-variants.{Count}
-use Rattle.standard.specs.declared.Judged.the-variants.{Refused, Volume}
+use Rattle.standard.specs.declared.Found.{Found}
+use Rattle.standard.specs.declared.Judged.{Judged}
+use Rattle.standard.specs.declared.Judged.the-variants.{Volume}
 use Rattle.standard.specs.declared.Written.{Written}
 use Rattle.standard.specs.declared.Written.the-variants.{Unwritten, Blocks}
 use Rattle.promises.specs.Basics.{never, either, eq-or-not}
@@ -44,28 +47,19 @@ use Rattle.promises.specs.WrittenHeard.{RoomFor, toldIn, written-heard-in}
 use Rattle.promises.specs.ByteSectors.{MayChange}
 use Rattle.promises.specs.Refusing.{Exactly, First, order-first, first-order, accepted-write}
 use Rattle.promises.specs.Following.{told, done, following}
-use Rattle.promises.specs.Demands.{file-call-refused, writing-refused, refused-writing-stays, write-list, write-counts, write-reads-back, write-changes-no-more, write-sets, write-stays-accepted, others-stay, finding-stays, writing-determined}
+use Rattle.promises.specs.Demands.{write-list, write-counts, write-reads-back, write-changes-no-more, write-sets, write-stays-accepted, others-stay, finding-stays}
 use Rattle.promises.specs.Instances.{demo, demoVolume, demoBodies, demoLengths, demo-accepted, demo-heard}
-use Rattle.demanded.specs.Demanded.{Reader, Meets, some-meets, followed, followed-is}
+use Rattle.demanded.specs.Calls.{Outcome, Meets, ByName, InSlot, Given, named, inSlot, ask, give, judge, find, find-slot, free, count, read, write, contract}
+use Rattle.demanded.specs.Called.{alike, answered, refuses-exactly}
+use Rattle.demanded.specs.Reading.{Reader, Reads, followed, followed-is}
 use Rattle.demanded.specs.CarryLaws.{last-between, end-behind-last, defects-between, goes-on-inside, goes-on-end, needed-some, needed-none, no-record-heard}
 
--- WHAT A FUNCTION THAT WRITES DOES, as its caller sees it: it is given an image, a slot, "all record bodies joined, and their lengths", and there is then an
--- answer, and the image as it is left. (Of lists and numbers that nobody can lend it, it may be thought to do as the definitions do, as in Demanded.)
-pub record WriteOutcome : Type 0 where
-  pub answer : Written
-  pub after : List ℕ
-
+-- A FUNCTION THAT WRITES, and that it meets the contract
 abbrev pub Writer : Type 0
-Writer = List ℕ → ℕ → List ℕ → List ℕ → WriteOutcome
+Writer = Given → Outcome Written
 
--- IT MEETS THE CONTRACT OF WRITING: both parts of it, for every input
-pub record MeetsWriting (w : Writer) : Type 0 where
-  pub answers : (image : List ℕ) (slot : ℕ) (bodies lengths : List ℕ) → w image slot bodies lengths .answer ≡ written image slot bodies lengths
-  pub leaves : (image : List ℕ) (slot : ℕ) (bodies lengths : List ℕ) → w image slot bodies lengths .after ≡ imageAfter image slot bodies lengths
-
--- there is such a function: the definitions themselves
-pub some-writes : MeetsWriting (λ image slot bodies lengths. record { answer = written image slot bodies lengths; after = imageAfter image slot bodies lengths })
-some-writes = record { answers = λ image slot bodies lengths. refl; leaves = λ image slot bodies lengths. refl }
+abbrev pub Writes : Writer → Type 0
+Writes w = Meets (contract write) w
 
 -- ======== THE STEP AT THE LAST SECTOR OF A TRACK
 -- "Sector counts fastest, then side, then cylinder." The next side's sector 01, if there is one:
@@ -113,57 +107,34 @@ pub carried :
 unfolding isDigit digitValue addressIn stepped addressesFrom nextDataEnd
 carried = (refl, refl, refl, (λ h. absurd (omega (arith, ap (λ (a : Address). a .cylinder) h))), refl, refl, refl, refl, refl)
 
-module _ (w : Writer) (meets : MeetsWriting w) where
-  -- ======== DETERMINACY
-  -- "For each input a contract determines the result and every lent byte afterwards, refusals too. Show that any two results it allows are equal"
-  pub writer-determined : (w′ : Writer) → MeetsWriting w′ → (image : List ℕ) (slot : ℕ) (bodies lengths : List ℕ)
-      → (w image slot bodies lengths .answer ≡ w′ image slot bodies lengths .answer) × (w image slot bodies lengths .after ≡ w′ image slot bodies lengths .after)
-  writer-determined w′ meets′ image slot bodies lengths =
-      writing-determined image slot bodies lengths _ _ _ _ (meets .answers image slot bodies lengths, meets .leaves image slot bodies lengths)
-      (meets′ .answers image slot bodies lengths, meets′ .leaves image slot bodies lengths)
-
-  -- ======== DEMAND 1
+module _ (w : Writer) (meets : Writes w) where
+  -- ======== WHAT IS ACCEPTED
   module _ (image : List ℕ) (slot : ℕ) (bodies lengths : List ℕ) where
-    agreed : (a : Written) → w image slot bodies lengths .answer ≡ a → written image slot bodies lengths ≡ a
-    agreed a h = sym (meets .answers image slot bodies lengths) ∙ h
+    agreed : (a : Written) → w (give image slot bodies lengths) .answer ≡ a → written image slot bodies lengths ≡ a
+    agreed a h = sym (meets (give image slot bodies lengths) .0) ∙ h
 
-    -- "A file call stops at the first refusal of the volume."
-    pub volume-stops-writing : (x : Refusal) → judged image ≡ Refused x → w image slot bodies lengths .answer ≡ Unwritten x
-    volume-stops-writing x h = meets .answers image slot bodies lengths ∙ file-call-refused image x h .5 slot bodies lengths
-
-    -- "Bad input gets the numbered refusal of document 01, exactly when its list says so": of an accepted volume "13-16, 24, 17, 25-27", which is `writeList`
-    pub refuses-writing-by-the-list : (g : Geometry) (x : Refusal) → judged image ≡ Volume g
-        → Exactly (w image slot bodies lengths .answer ≡ Unwritten x) (First x (writeList g image slot bodies lengths))
-    refuses-writing-by-the-list g x accepted =
-        let e = writing-refused image g accepted slot bodies lengths x in
-        ((λ h. e .0 (agreed (Unwritten x) h)), (λ f. meets .answers image slot bodies lengths ∙ e .1 f))
-
-    -- and it is accepted exactly where none of the list is given: the answer is then the number of blocks that the list needs
+    -- Exactly what no refusal of the list is given for (`refuses-exactly`, in Called): the answer is then the number of blocks that the list needs
     pub accepts-by-the-list : (g : Geometry) (n : ℕ) → judged image ≡ Volume g
-        → Exactly (w image slot bodies lengths .answer ≡ Blocks n)
+        → Exactly (w (give image slot bodies lengths) .answer ≡ Blocks n)
         ((writeRefusal g image slot bodies lengths ≡ Passed) × (n ≡ needed (labelAt g image slot) bodies lengths))
     accepts-by-the-list g n accepted = (
       (λ h. (accepted-write image g accepted slot bodies lengths n (agreed (Blocks n) h), write-counts image g slot bodies lengths n accepted (agreed (Blocks n) h) .0)),
-      (λ p. meets .answers image slot bodies lengths ∙ answers image g slot bodies lengths accepted (p .0) ∙ ap Blocks (sym (p .1))),
+      (λ p. meets (give image slot bodies lengths) .0 ∙ answers image g slot bodies lengths accepted (p .0) ∙ ap Blocks (sym (p .1))),
     )
-
-    -- "and a refusal changes no byte of the image": "A refusal returns number and place, and all lent bytes stay."
-    pub refused-write-leaves : (x : Refusal) → w image slot bodies lengths .answer ≡ Unwritten x → w image slot bodies lengths .after ≡ image
-    refused-write-leaves x h = meets .leaves image slot bodies lengths ∙ refused-writing-stays image slot bodies lengths x (agreed (Unwritten x) h)
 
   -- ======== DEMAND 2
   -- "an accepted write reads back as its list and changes no byte but the sectors it fills and two fields of the label." A write is accepted where it answers
   -- with a number of blocks, n. `parted bodies lengths`: the list, record by record.
   module _ (image : List ℕ) (g : Geometry) (slot : ℕ) (bodies lengths : List ℕ) (n : ℕ) (accepted : judged image ≡ Volume g)
-      (success : w image slot bodies lengths .answer ≡ Blocks n) where
+      (success : w (give image slot bodies lengths) .answer ≡ Blocks n) where
     abbrev after : List ℕ
-    after = w image slot bodies lengths .after
+    after = w (give image slot bodies lengths) .after
 
     abbrev label : List ℕ
     label = labelAt g image slot
 
     left : after ≡ imageAfter image slot bodies lengths
-    left = meets .leaves image slot bodies lengths
+    left = meets (give image slot bodies lengths) .1
 
     so : written image slot bodies lengths ≡ Blocks n
     so = agreed image slot bodies lengths (Blocks n) success
@@ -171,16 +142,20 @@ module _ (w : Writer) (meets : MeetsWriting w) where
     passed : writeRefusal g image slot bodies lengths ≡ Passed
     passed = accepted-write image g accepted slot bodies lengths n so
 
-    count : n ≡ needed label bodies lengths
-    count = write-counts image g slot bodies lengths n accepted so .0
+    needs : n ≡ needed label bodies lengths
+    needs = write-counts image g slot bodies lengths n accepted so .0
 
     -- the list is the bodies lent, each of its length
     pub list-is : (map length (parted bodies lengths) ≡ lengths) × (joined (parted bodies lengths) ≡ bodies)
     list-is = write-list image g slot bodies lengths n accepted so
 
     -- the number answered is that of the blocks which the list needs, and which the file has afterwards
-    pub blocks-are : (n ≡ needed label bodies lengths) × (counted after slot ≡ Count n)
-    blocks-are = (count, ap (λ (s : List ℕ). counted s slot) left ∙ write-counts image g slot bodies lengths n accepted so .1)
+    counted-after : counted after slot ≡ Count n
+    counted-after = ap (λ (s : List ℕ). counted s slot) left ∙ write-counts image g slot bodies lengths n accepted so .1
+
+    pub blocks-are : (n ≡ needed label bodies lengths)
+        × ((counter : InSlot → Outcome Counted) → Meets (contract count) counter → counter (inSlot after slot) .answer ≡ Count n)
+    blocks-are = (needs, (λ counter counts. counts (inSlot after slot) .0 ∙ counted-after))
 
     -- "changes no byte but the sectors it fills and two fields of the label": the length stays, and every byte is as before or `MayChange`, that is, in a
     -- sector of the n blocks filled, or in positions 58-62 or 75-79 of the label
@@ -190,7 +165,7 @@ module _ (w : Writer) (meets : MeetsWriting w) where
           ap length left ∙ c .0,
           (λ i.
               subst (λ (s : List ℕ). (getD s i 0 ≡ getD image i 0) ⊎ MayChange g image slot n i) (sym left)
-              (subst (λ (k : ℕ). (getD (imageAfter image slot bodies lengths) i 0 ≡ getD image i 0) ⊎ MayChange g image slot k i) (sym count) (c .1 i))),
+              (subst (λ (k : ℕ). (getD (imageAfter image slot bodies lengths) i 0 ≡ getD image i 0) ⊎ MayChange g image slot k i) (sym needs) (c .1 i))),
         )
 
     -- the image is accepted again, as the same volume
@@ -203,12 +178,12 @@ module _ (w : Writer) (meets : MeetsWriting w) where
     sets-fields =
         let s = write-sets image g slot bodies lengths n accepted so in (
           ap (λ (t : List ℕ). field (labelAt g t slot) 58 62) left ∙ s .0,
-          ap (λ (t : List ℕ). field (labelAt g t slot) 75 79) left ∙ s .1 ∙ ap (λ (k : ℕ). fiveBytes (dataEndAfter g image label k)) (sym count),
+          ap (λ (t : List ℕ). field (labelAt g t slot) 75 79) left ∙ s .1 ∙ ap (λ (k : ℕ). fiveBytes (dataEndAfter g image label k)) (sym needs),
         )
 
     -- "an accepted write reads back as its list": whoever reads it afterwards, plainly or by salvage, from Start and on, hears the list and then End. (The output
     -- has room for every record, and there is one reading more than there are records.)
-    pub reads-back : (m : Mode) (r : Reader) → Meets m r → (readings : ℕ) (out : List ℕ) → RoomFor (length out) lengths → length lengths + 1 ≤ readings
+    pub reads-back : (m : Mode) (r : Reader) → Reads m r → (readings : ℕ) (out : List ℕ) → RoomFor (length out) lengths → length lengths + 1 ≤ readings
         → followed readings r after slot out start ≡ map told (parted bodies lengths) ++ (done ∷ [])
     reads-back m r reads readings out room enough =
         followed-is m r reads readings after slot out start
@@ -216,7 +191,7 @@ module _ (w : Writer) (meets : MeetsWriting w) where
         ∙ write-reads-back image g slot bodies lengths n accepted so m readings out room enough
 
     -- and with any number of readings and any output: so much of it, up to the first record that is too long for the output, where 23 is heard
-    pub reads-back-in : (m : Mode) (r : Reader) → Meets m r → (readings : ℕ) (out : List ℕ)
+    pub reads-back-in : (m : Mode) (r : Reader) → Reads m r → (readings : ℕ) (out : List ℕ)
         → followed readings r after slot out start ≡ take readings (toldIn (length out) (parted bodies lengths))
     reads-back-in m r reads readings out =
         followed-is m r reads readings after slot out start
@@ -224,37 +199,49 @@ module _ (w : Writer) (meets : MeetsWriting w) where
         ∙ written-heard-in image g slot bodies lengths accepted passed m readings out
 
     -- Every other file is as before: every reading of it by whatever function, its count, its label.
-    pub others-read-as-before : (other : ℕ) → (other ≡ slot → ⊥) → (m : Mode) (r : Reader) → Meets m r → (pl : Place) (out : List ℕ)
-        → (r after other pl out .answer ≡ r image other pl out .answer) × (r after other pl out .after ≡ r image other pl out .after)
+    pub others-read-as-before : (other : ℕ) → (other ≡ slot → ⊥) → (m : Mode) (r : Reader) → Reads m r → (pl : Place) (out : List ℕ)
+        → (r (ask after other pl out) .answer ≡ r (ask image other pl out) .answer) × (r (ask after other pl out) .after ≡ r (ask image other pl out) .after)
     others-read-as-before other ne m r reads pl out =
         let o = others-stay image g slot bodies lengths n accepted so other ne in (
-          reads .answers after other pl out
+          reads (ask after other pl out) .0
               ∙ ap (λ (s : List ℕ). readAnswer m s other pl out) left
               ∙ o .0 m pl out
-              ∙ sym (reads .answers image other pl out),
-          reads .leaves after other pl out
+              ∙ sym (reads (ask image other pl out) .0),
+          reads (ask after other pl out) .1
               ∙ ap (λ (s : List ℕ). outputAfter m s other pl out) left
               ∙ o .1 m pl out
-              ∙ sym (reads .leaves image other pl out),
+              ∙ sym (reads (ask image other pl out) .1),
         )
 
-    pub others-counted-as-before : (other : ℕ) → (other ≡ slot → ⊥) → counted after other ≡ counted image other
-    others-counted-as-before other ne =
-        ap (λ (s : List ℕ). counted s other) left ∙ others-stay image g slot bodies lengths n accepted so other ne .2
+    pub others-counted-as-before : (other : ℕ) → (other ≡ slot → ⊥) → (counter : InSlot → Outcome Counted) → Meets (contract count) counter
+        → counter (inSlot after other) .answer ≡ counter (inSlot image other) .answer
+    others-counted-as-before other ne counter counts =
+        alike (contract count) counter counts (inSlot after other) (inSlot image other)
+        (ap (λ (s : List ℕ). counted s other) left ∙ others-stay image g slot bodies lengths n accepted so other ne .2)
 
     pub other-labels-stay : (other : ℕ) → (other ≡ slot → ⊥) → 1 ≤ other → other ≤ slotCount g → labelAt g after other ≡ labelAt g image other
     other-labels-stay other ne low high =
         ap (λ (s : List ℕ). labelAt g s other) left ∙ labels-stay image g slot bodies lengths accepted passed other ne low high
 
-    -- and so is what is found by every name and in every slot, and the number of free records
-    pub found-as-before : ((name : List ℕ) → found after name ≡ found image name) × ((s : ℕ) → foundAt after s ≡ foundAt image s)
-        × (freeCount after ≡ freeCount image)
-    found-as-before =
-        let f = finding-stays image g slot bodies lengths n accepted so in (
-          (λ name. ap (λ (s : List ℕ). found s name) left ∙ f .0 name),
-          (λ i. ap (λ (s : List ℕ). foundAt s i) left ∙ f .1 i),
-          ap freeCount left ∙ f .2,
-        )
+    -- and so is the volume, what is found by every name and in every slot, and the number of free records
+    pub judged-as-before : (judger : List ℕ → Outcome Judged) → Meets (contract judge) judger → judger after .answer ≡ judger image .answer
+    judged-as-before judger judges = alike (contract judge) judger judges after image (stays-accepted ∙ sym accepted)
+
+    pub found-as-before : (finder : ByName → Outcome Found) → Meets (contract find) finder → (name : List ℕ)
+        → finder (named after name) .answer ≡ finder (named image name) .answer
+    found-as-before finder finds name =
+        alike (contract find) finder finds (named after name) (named image name)
+        (ap (λ (s : List ℕ). found s name) left ∙ finding-stays image g slot bodies lengths n accepted so .0 name)
+
+    pub found-in-slot-as-before : (finder : InSlot → Outcome Found) → Meets (contract find-slot) finder → (s : ℕ)
+        → finder (inSlot after s) .answer ≡ finder (inSlot image s) .answer
+    found-in-slot-as-before finder finds s =
+        alike (contract find-slot) finder finds (inSlot after s) (inSlot image s)
+        (ap (λ (t : List ℕ). foundAt t s) left ∙ finding-stays image g slot bodies lengths n accepted so .1 s)
+
+    pub free-as-before : (counter : List ℕ → Outcome Counted) → Meets (contract free) counter → counter after .answer ≡ counter image .answer
+    free-as-before counter counts =
+        alike (contract free) counter counts after image (ap freeCount left ∙ finding-stays image g slot bodies lengths n accepted so .2)
 
     -- A further write, to this file or another, is refused as it would have been before, or not refused.
     refusing-stays : (s : ℕ) (b l : List ℕ) → writeRefusal g after s b l ≡ writeRefusal g image s b l
@@ -266,11 +253,11 @@ module _ (w : Writer) (meets : MeetsWriting w) where
         (finding-stays image g slot bodies lengths n accepted so .3 b l))
         (λ (ne : s ≡ slot → ⊥). others-stay image g slot bodies lengths n accepted so s ne .3 b l)
 
-    pub refused-as-before : (s : ℕ) (b l : List ℕ) (x : Refusal) → Exactly (w after s b l .answer ≡ Unwritten x) (w image s b l .answer ≡ Unwritten x)
+    pub refused-as-before : (s : ℕ) (b l : List ℕ) (x : Refusal) → Exactly (w (give after s b l) .answer ≡ Unwritten x) (w (give image s b l) .answer ≡ Unwritten x)
     unfolding writeRefusal
     refused-as-before s b l x =
-        let now = refuses-writing-by-the-list after s b l g x stays-accepted in
-        let then = refuses-writing-by-the-list image s b l g x accepted in
+        let now = refuses-exactly write g (give after s b l) (w (give after s b l) .answer) (w (give after s b l) .after) x stays-accepted (meets (give after s b l)) in
+        let then = refuses-exactly write g (give image s b l) (w (give image s b l) .answer) (w (give image s b l) .after) x accepted (meets (give image s b l)) in
         let same = refusing-stays s b l in (
           (λ h. then .1 (order-first (writeList g image s b l) x (sym same ∙ first-order (writeList g after s b l) x (now .0 h)))),
           (λ h. now .1 (order-first (writeList g after s b l) x (same ∙ first-order (writeList g image s b l) x (then .0 h)))),
@@ -297,7 +284,7 @@ module _ (w : Writer) (meets : MeetsWriting w) where
         let e : dataEnd ≡ dataEndAfter g image label n =
         ap (λ (s : List ℕ). dataEndOf (labelAt g s slot)) (left ∙ after-is image g slot bodies lengths accepted passed)
         ∙ new-end image g slot bodies lengths accepted passed
-        ∙ ap (dataEndAfter g image label) (sym count) in
+        ∙ ap (dataEndAfter g image label) (sym needs) in
         (sets-fields .1 ∙ ap fiveBytes (sym e), e)
 
     range : InRange g label
@@ -307,7 +294,7 @@ module _ (w : Writer) (meets : MeetsWriting w) where
     m-some = records-some image g slot bodies lengths accepted passed
 
     enough-good : n * m ≤ length good
-    enough-good = omega (arith, enough-records image g slot bodies lengths accepted passed, ap (λ (x : ℕ). x * m) count)
+    enough-good = omega (arith, enough-records image g slot bodies lengths accepted passed, ap (λ (x : ℕ). x * m) needs)
 
     -- "start for 0 blocks"
     pub none-ends-at-the-start : n ≡ 0 → dataEnd ≡ startOf label
@@ -358,19 +345,19 @@ module _ (w : Writer) (meets : MeetsWriting w) where
     pub the-start-exactly-if-empty : Exactly (dataEnd ≡ startOf label) (lengths ≡ [])
     the-start-exactly-if-empty = (
       (λ h. from lengths refl h),
-      (λ e. none-ends-at-the-start (count ∙ ap (needed label bodies) e ∙ needed-none label bodies)),
+      (λ e. none-ends-at-the-start (needs ∙ ap (needed label bodies) e ∙ needed-none label bodies)),
     )
       where
         from : (ls : List ℕ) → lengths ≡ ls → dataEnd ≡ startOf label → lengths ≡ []
         from [] e h = e
         from (x ∷ xs) e h =
-            let c : n ≡ needed label bodies (x ∷ xs) = count ∙ ap (needed label bodies) e in
+            let c : n ≡ needed label bodies (x ∷ xs) = needs ∙ ap (needed label bodies) e in
             let p : 0 < n = omega (arith, c, needed-some label bodies x xs) in
             absurd (omega (arith, never-the-start p .0, ap (rank g) h))
 
     -- ======== "a write that reports success and stores nothing (read-back)" has to be rejected
     -- If a reader did not hear this list of the file before, it does not hear after the write what it heard before, and so the image is another
-    pub no-storing-nothing : (r : Reader) → Meets plain r → (readings : ℕ) (out : List ℕ) → RoomFor (length out) lengths → length lengths + 1 ≤ readings
+    pub no-storing-nothing : (r : Reader) → Reads plain r → (readings : ℕ) (out : List ℕ) → RoomFor (length out) lengths → length lengths + 1 ≤ readings
         → (followed readings r image slot out start ≡ map told (parted bodies lengths) ++ (done ∷ []) → ⊥)
         → (followed readings r after slot out start ≡ followed readings r image slot out start → ⊥) × (after ≡ image → ⊥)
     no-storing-nothing r reads readings out room enough otherwise =
@@ -380,7 +367,7 @@ module _ (w : Writer) (meets : MeetsWriting w) where
         )
 
     -- so of a file that had no block before, and any list with a record: no reader hears the same as before, and the image is another
-    unheard : (r : Reader) → Meets plain r → dataEndOf label ≡ startOf label → (out ls : List ℕ) (k : ℕ) → (ls ≡ [] → ⊥) → length ls + 1 ≤ k
+    unheard : (r : Reader) → Reads plain r → dataEndOf label ≡ startOf label → (out ls : List ℕ) (k : ℕ) → (ls ≡ [] → ⊥) → length ls + 1 ≤ k
         → followed k r image slot out start ≡ map told (parted bodies ls) ++ (done ∷ []) → ⊥
     unfolding parted
     unheard r reads empty out [] k filled enough h = filled refl
@@ -389,7 +376,7 @@ module _ (w : Writer) (meets : MeetsWriting w) where
         no-record-heard image g slot accepted empty plain k out (take x bodies) _ (sym (followed-is plain r reads (suc k) image slot out start) ∙ h)
 
     pub no-storing-nothing-first : dataEndOf label ≡ startOf label → (lengths ≡ [] → ⊥)
-        → (r : Reader) → Meets plain r → (readings : ℕ) (out : List ℕ) → RoomFor (length out) lengths → length lengths + 1 ≤ readings
+        → (r : Reader) → Reads plain r → (readings : ℕ) (out : List ℕ) → RoomFor (length out) lengths → length lengths + 1 ≤ readings
         → (followed readings r after slot out start ≡ followed readings r image slot out start → ⊥) × (after ≡ image → ⊥)
     no-storing-nothing-first empty filled r reads readings out room enough =
         no-storing-nothing r reads readings out room enough (unheard r reads empty out lengths readings filled enough)
@@ -398,13 +385,13 @@ module _ (w : Writer) (meets : MeetsWriting w) where
 -- "These programs have to be rejected: one refusing everything ..; a write that reports success and stores nothing (read-back)". Of a small volume with an
 -- empty file (`demo`, in Instances) and the list `PARTS`, `LOG`, any function that meets the contract answers one block, and whoever reads the file afterwards
 -- hears both records:
-pub writer-answers : (w : Writer) → MeetsWriting w → w demo 1 demoBodies demoLengths .answer ≡ Blocks 1
-writer-answers w meets = meets .answers demo 1 demoBodies demoLengths ∙ demo-accepted .3
+pub writer-answers : (w : Writer) → Writes w → w (give demo 1 demoBodies demoLengths) .answer ≡ Blocks 1
+writer-answers w meets = meets (give demo 1 demoBodies demoLengths) .0 ∙ demo-accepted .3
 
-pub writer-heard : (w : Writer) → MeetsWriting w → (r : Reader) → Meets plain r
-    → followed 3 r (w demo 1 demoBodies demoLengths .after) 1 (replicate 5 255) start ≡ told (bytes "PARTS") ∷ told (bytes "LOG") ∷ done ∷ []
+pub writer-heard : (w : Writer) → Writes w → (r : Reader) → Reads plain r
+    → followed 3 r (w (give demo 1 demoBodies demoLengths) .after) 1 (replicate 5 255) start ≡ told (bytes "PARTS") ∷ told (bytes "LOG") ∷ done ∷ []
 writer-heard w meets r reads =
-    ap (λ (s : List ℕ). followed 3 r s 1 (replicate 5 255) start) (meets .leaves demo 1 demoBodies demoLengths)
+    ap (λ (s : List ℕ). followed 3 r s 1 (replicate 5 255) start) (meets (give demo 1 demoBodies demoLengths) .1)
     ∙ followed-is plain r reads 3 (imageAfter demo 1 demoBodies demoLengths) 1 (replicate 5 255) start
     ∙ demo-heard
 
@@ -413,30 +400,30 @@ demo-empty : dataEndOf (labelAt demoVolume demo 1) ≡ startOf (labelAt demoVolu
 unfolding kAt bodySize kindOffset bodyOffset slotOrdinal labelOffset labelAt isDigit digitValue addressIn
 demo-empty = refl
 
-module _ (w : Writer) (meets : MeetsWriting w) where
+module _ (w : Writer) (meets : Writes w) where
   -- one that refuses everything: it would refuse this write
-  pub no-refusing-writes : (x : Refusal) → w demo 1 demoBodies demoLengths .answer ≡ Unwritten x → ⊥
+  pub no-refusing-writes : (x : Refusal) → w (give demo 1 demoBodies demoLengths) .answer ≡ Unwritten x → ⊥
   no-refusing-writes x h = let e = sym (writer-answers w meets) ∙ h in never (cc)
 
   -- one that stores nothing: every reader would hear what it heard before, and the image would be the one before
-  stored-something : (r : Reader) → Meets plain r
-      → (followed 3 r (w demo 1 demoBodies demoLengths .after) 1 (replicate 5 255) start ≡ followed 3 r demo 1 (replicate 5 255) start → ⊥)
-      × (w demo 1 demoBodies demoLengths .after ≡ demo → ⊥)
+  stored-something : (r : Reader) → Reads plain r
+      → (followed 3 r (w (give demo 1 demoBodies demoLengths) .after) 1 (replicate 5 255) start ≡ followed 3 r demo 1 (replicate 5 255) start → ⊥)
+      × (w (give demo 1 demoBodies demoLengths) .after ≡ demo → ⊥)
   stored-something r reads =
       no-storing-nothing-first w meets demo demoVolume 1 demoBodies demoLengths 1 (demo-accepted .1) (writer-answers w meets) demo-empty (λ e. never (cc)) r reads
       3 (replicate 5 255) (omega arith, (omega arith, tt)) (omega arith)
 
-  pub no-sounding-as-before : (r : Reader) → Meets plain r
-      → followed 3 r (w demo 1 demoBodies demoLengths .after) 1 (replicate 5 255) start ≡ followed 3 r demo 1 (replicate 5 255) start → ⊥
+  pub no-sounding-as-before : (r : Reader) → Reads plain r
+      → followed 3 r (w (give demo 1 demoBodies demoLengths) .after) 1 (replicate 5 255) start ≡ followed 3 r demo 1 (replicate 5 255) start → ⊥
   no-sounding-as-before r reads = stored-something r reads .0
 
-  pub no-keeping-the-image : w demo 1 demoBodies demoLengths .after ≡ demo → ⊥
-  no-keeping-the-image = stored-something _ (some-meets plain) .1
+  pub no-keeping-the-image : w (give demo 1 demoBodies demoLengths) .after ≡ demo → ⊥
+  no-keeping-the-image = stored-something _ (answered (contract (read plain))) .1
 
   -- or one that stores no record, or only the first, as a reader hears it
-  pub no-losing-all : (r : Reader) → Meets plain r → followed 3 r (w demo 1 demoBodies demoLengths .after) 1 (replicate 5 255) start ≡ done ∷ [] → ⊥
+  pub no-losing-all : (r : Reader) → Reads plain r → followed 3 r (w (give demo 1 demoBodies demoLengths) .after) 1 (replicate 5 255) start ≡ done ∷ [] → ⊥
   no-losing-all r reads h = let e = sym (writer-heard w meets r reads) ∙ h in never (cc)
 
-  pub no-losing-the-rest : (r : Reader) → Meets plain r → (body : List ℕ)
-      → followed 3 r (w demo 1 demoBodies demoLengths .after) 1 (replicate 5 255) start ≡ told body ∷ done ∷ [] → ⊥
+  pub no-losing-the-rest : (r : Reader) → Reads plain r → (body : List ℕ)
+      → followed 3 r (w (give demo 1 demoBodies demoLengths) .after) 1 (replicate 5 255) start ≡ told body ∷ done ∷ [] → ⊥
   no-losing-the-rest r reads body h = let e = sym (writer-heard w meets r reads) ∙ h in never (cc)

@@ -1,7 +1,7 @@
--- THE DEMANDS REACH THE CODE, for a reader who proves nothing. The promises of crates/promises, Demands, speak of the definitions `readAnswer` and
--- `outputAfter`. The contracts of the functions that read say no more than this: the answer is `readAnswer`, and the output afterwards is `outputAfter`. Here
--- the promises are said again of any function that meets such a contract, whatever its code; and the wrong programs that document 01 names are shown to meet
--- none. The lines behind `=` only name the proof. `A → B`: if A then B; `A × B`: both; `A → ⊥`: not A.
+-- DEMANDS 2 AND 3 OF FUNCTIONS THAT READ, for a reader who proves nothing. The contract of such a function says no more than this: the answer is `readAnswer`,
+-- and the output afterwards is `outputAfter` (Calls). Here the promises of crates/promises, Demands, which speak of these definitions, are said of any function
+-- that meets the contract, whatever its code; and the wrong programs that document 01 names are shown to meet none. What holds of every call, demand 1 and that
+-- a contract leaves no choice, is in Called. The lines behind `=` only name the proof. `A → B`: if A then B; `A × B`: both; `A → ⊥`: not A.
 -- Assumes nothing.
 use Prim.Native.Nat.{ℕ, zero, suc, _*_, _≤_}
 use mathlib.Core.Path.{_≡_, refl, sym, ap, subst, _∙_}
@@ -22,10 +22,9 @@ use Rattle.standard.specs.declared.Refusal.{Refusal}
 use Rattle.standard.specs.declared.Answer.{Answer}
 use Rattle.standard.specs.declared.Answer.the-variants.{Unanswered, Gap, End, Record as RecordOf}
 use Rattle.standard.specs.declared.Checked.the-variants.{Passed}
-use Rattle.standard.specs.declared.Judged.the-variants.{Refused, Volume}
+use Rattle.standard.specs.declared.Judged.the-variants.{Volume}
 use Rattle.promises.specs.Basics.{never}
-use Rattle.promises.specs.Refusing.{Exactly, First}
-use Rattle.promises.specs.ReadingRefused.{readList, LostIn}
+use Rattle.promises.specs.ReadingRefused.{LostIn}
 use Rattle.promises.specs.ReadingLaws.{bodyOf}
 use Rattle.promises.specs.Following.{Heard, told, hole, done, refused, onward, following, heard, heardIn, Fits}
 use Rattle.promises.specs.AnyPlace.{listedFrom}
@@ -34,34 +33,23 @@ use Rattle.promises.specs.Failing.{Failed, Spares, ReadsWhole, gone, expected}
 use Rattle.promises.specs.Failable.{failedAt}
 use Rattle.promises.specs.PlainFailed.{FirstGone, NoneGone, cutAt}
 use Rattle.promises.specs.Runs.{AfterDropped}
-use Rattle.promises.specs.Demands.{reading-refused, file-call-refused, refused-reading-stays, gap-stays, end-stays, record-stays, reading-gives, reading-gives-from, record-leads, gap-leads, end-leads, salvage-gives, plain-gives, never-joined, joined-rightly, locality, reading-determined}
+use Rattle.promises.specs.Demands.{gap-stays, end-stays, record-stays, reading-gives, reading-gives-from, record-leads, gap-leads, end-leads, salvage-gives, plain-gives, never-joined, joined-rightly, locality}
+use Rattle.demanded.specs.Calls.{Outcome, Meets, Asked, ask, read, contract}
 use Rattle.promises.specs.Instances.{image, output, geometry, computed}
 
--- WHAT A FUNCTION THAT READS DOES, as its caller sees it: it is given an image, a slot, a place and an output, and there is then an answer, and the output as
--- it is left. (A function of the code takes bytes and numbers of 64 bits. Of other lists and numbers, which nobody can lend it and which it never hands out,
--- it may be thought to answer as the definitions do: so it is a `Reader`, and what is said of one holds of it.)
-pub record Outcome : Type 0 where
-  pub answer : Answer
-  pub after : List ℕ
-
+-- A FUNCTION THAT READS, and that it meets the contract, of plain reading or of salvage
 abbrev pub Reader : Type 0
-Reader = List ℕ → ℕ → Place → List ℕ → Outcome
+Reader = Asked → Outcome Answer
 
--- IT MEETS THE CONTRACT, of plain reading or of salvage: both parts of it, for every input
-pub record Meets (m : Mode) (r : Reader) : Type 0 where
-  pub answers : (image : List ℕ) (slot : ℕ) (pl : Place) (out : List ℕ) → r image slot pl out .answer ≡ readAnswer m image slot pl out
-  pub leaves : (image : List ℕ) (slot : ℕ) (pl : Place) (out : List ℕ) → r image slot pl out .after ≡ outputAfter m image slot pl out
-
--- there is such a function: the definitions themselves
-pub some-meets : (m : Mode) → Meets m (λ image slot pl out. record { answer = readAnswer m image slot pl out; after = outputAfter m image slot pl out })
-some-meets m = record { answers = λ image slot pl out. refl; leaves = λ image slot pl out. refl }
+abbrev pub Reads : Mode → Reader → Type 0
+Reads m r = Meets (contract (read m)) r
 
 -- WHAT A CALLER HEARS who reads a place with such a function, and then each place that it hands out, at most n times, stopping at End or a refusal. Each
 -- reading is into the same output, as the one before left it.
 unfoldable pub followed : ℕ → Reader → List ℕ → ℕ → List ℕ → Place → List Heard
 followed zero r image slot out pl = []
 followed (suc n) r image slot out pl =
-    onward (r image slot pl out .answer) (r image slot pl out .after) (λ out′ pl′. followed n r image slot out′ pl′)
+    onward (r (ask image slot pl out) .answer) (r (ask image slot pl out) .after) (λ out′ pl′. followed n r image slot out′ pl′)
 
 -- that is what `following` says of the definitions
 onward-same : (a : Answer) (out : List ℕ) (more more′ : List ℕ → Place → List Heard) → ((o : List ℕ) (pl : Place) → more o pl ≡ more′ o pl)
@@ -71,67 +59,52 @@ onward-same (RecordOf n pl) out more more′ h = ap (λ (hs : List Heard). told 
 onward-same (Gap pl) out more more′ h = ap (λ (hs : List Heard). onward (Gap pl) out (λ o p. hs)) (h out pl)
 onward-same (End pl) out more more′ h = refl
 
-pub followed-is : (m : Mode) (r : Reader) → Meets m r → (n : ℕ) (image : List ℕ) (slot : ℕ) (out : List ℕ) (pl : Place)
+pub followed-is : (m : Mode) (r : Reader) → Reads m r → (n : ℕ) (image : List ℕ) (slot : ℕ) (out : List ℕ) (pl : Place)
     → followed n r image slot out pl ≡ following n m image slot out pl
 unfolding followed following
 followed-is m r meets zero image slot out pl = refl
 followed-is m r meets (suc n) image slot out pl =
-    ap (λ (a : Answer). onward a (r image slot pl out .after) (λ out′ pl′. followed n r image slot out′ pl′)) (meets .answers image slot pl out)
-    ∙ ap (λ (o : List ℕ). onward (readAnswer m image slot pl out) o (λ out′ pl′. followed n r image slot out′ pl′)) (meets .leaves image slot pl out)
+    ap (λ (a : Answer). onward a (r (ask image slot pl out) .after) (λ out′ pl′. followed n r image slot out′ pl′)) (meets (ask image slot pl out) .0)
+    ∙ ap (λ (o : List ℕ). onward (readAnswer m image slot pl out) o (λ out′ pl′. followed n r image slot out′ pl′)) (meets (ask image slot pl out) .1)
     ∙ onward-same (readAnswer m image slot pl out) (outputAfter m image slot pl out) _ _ (λ o p. followed-is m r meets n image slot o p)
 
-module _ (m : Mode) (r : Reader) (meets : Meets m r) where
-  -- ======== DEMAND 1
+module _ (m : Mode) (r : Reader) (meets : Reads m r) where
+  -- ======== ONE READING
   module _ (image : List ℕ) (slot : ℕ) (pl : Place) (out : List ℕ) where
-    agreed : (a : Answer) → r image slot pl out .answer ≡ a → readAnswer m image slot pl out ≡ a
-    agreed a h = sym (meets .answers image slot pl out) ∙ h
+    agreed : (a : Answer) → r (ask image slot pl out) .answer ≡ a → readAnswer m image slot pl out ≡ a
+    agreed a h = sym (meets (ask image slot pl out) .0) ∙ h
 
-    -- "A file call stops at the first refusal of the volume."
-    pub volume-stops-it : (x : Refusal) → judged image ≡ Refused x → r image slot pl out .answer ≡ Unanswered x
-    volume-stops-it x h = meets .answers image slot pl out ∙ file-call-refused image x h .4 m slot pl out
+    -- "Bytes behind a record in the output stay too; gap and End change none."
+    pub gap-leaves : (next : Place) → r (ask image slot pl out) .answer ≡ Gap next → r (ask image slot pl out) .after ≡ out
+    gap-leaves next h = meets (ask image slot pl out) .1 ∙ gap-stays m image slot pl out next (agreed (Gap next) h)
 
-    -- "Bad input gets the numbered refusal of document 01, exactly when its list says so": of an accepted volume, 13 to 23 by `readList`
-    pub refuses-by-the-list : (g : Geometry) (x : Refusal) → judged image ≡ Volume g
-        → Exactly (r image slot pl out .answer ≡ Unanswered x) (First x (readList m g image slot pl (length out)))
-    refuses-by-the-list g x accepted =
-        let e = reading-refused image g accepted m slot pl out x in
-        ((λ h. e .0 (agreed (Unanswered x) h)), (λ f. meets .answers image slot pl out ∙ e .1 f))
+    pub end-leaves : (next : Place) → r (ask image slot pl out) .answer ≡ End next → r (ask image slot pl out) .after ≡ out
+    end-leaves next h = meets (ask image slot pl out) .1 ∙ end-stays m image slot pl out next (agreed (End next) h)
 
-    -- "and a refusal changes no byte of the image or of the output." "Bytes behind a record in the output stay too; gap and End change none."
-    pub refusal-leaves : (x : Refusal) → r image slot pl out .answer ≡ Unanswered x → r image slot pl out .after ≡ out
-    refusal-leaves x h = meets .leaves image slot pl out ∙ refused-reading-stays m image slot pl out x (agreed (Unanswered x) h)
+    pub record-leaves : (k : ℕ) (next : Place) → r (ask image slot pl out) .answer ≡ RecordOf k next
+        → (k ≤ length out) × (drop k (r (ask image slot pl out) .after) ≡ drop k out) × (length (r (ask image slot pl out) .after) ≡ length out)
+    record-leaves k next h = rw (meets (ask image slot pl out) .1) (record-stays m image slot pl out k next (agreed (RecordOf k next) h))
 
-    pub gap-leaves : (next : Place) → r image slot pl out .answer ≡ Gap next → r image slot pl out .after ≡ out
-    gap-leaves next h = meets .leaves image slot pl out ∙ gap-stays m image slot pl out next (agreed (Gap next) h)
-
-    pub end-leaves : (next : Place) → r image slot pl out .answer ≡ End next → r image slot pl out .after ≡ out
-    end-leaves next h = meets .leaves image slot pl out ∙ end-stays m image slot pl out next (agreed (End next) h)
-
-    pub record-leaves : (k : ℕ) (next : Place) → r image slot pl out .answer ≡ RecordOf k next
-        → (k ≤ length out) × (drop k (r image slot pl out .after) ≡ drop k out) × (length (r image slot pl out .after) ≡ length out)
-    record-leaves k next h = rw (meets .leaves image slot pl out) (record-stays m image slot pl out k next (agreed (RecordOf k next) h))
-
-    -- ======== DEMANDS 2 AND 3, of one reading
     -- every place handed out is in the file; a gap's is behind a lost block; End's is (count, 0)
     module _ (g : Geometry) (accepted : judged image ≡ Volume g) (next : Place) where
-      pub record-hands-out : (k : ℕ) → r image slot pl out .answer ≡ RecordOf k next → inFile (fileIn g image (labelAt g image slot)) next ≡ true
+      pub record-hands-out : (k : ℕ) → r (ask image slot pl out) .answer ≡ RecordOf k next → inFile (fileIn g image (labelAt g image slot)) next ≡ true
       record-hands-out k h = record-leads image g accepted m slot pl out next k (agreed (RecordOf k next) h)
 
-      pub gap-hands-out : r image slot pl out .answer ≡ Gap next
+      pub gap-hands-out : r (ask image slot pl out) .answer ≡ Gap next
           → (inFile (fileIn g image (labelAt g image slot)) next ≡ true)
           × (b : ℕ) × LostIn (fileIn g image (labelAt g image slot)) b × (next ≡ record { block = suc b; offset = 0; mark = true })
       gap-hands-out h = gap-leads image g accepted m slot pl out next (agreed (Gap next) h)
 
-      pub end-hands-out : r image slot pl out .answer ≡ End next
+      pub end-hands-out : r (ask image slot pl out) .answer ≡ End next
           → (inFile (fileIn g image (labelAt g image slot)) next ≡ true) × (next ≡ endPlace (blockCount g image (labelAt g image slot)))
       end-hands-out h = end-leads image g accepted m slot pl out next (agreed (End next) h)
 
       -- "No record is ever joined out of two others": its bytes are those of one piece `0`, or of pieces `1`, `2`.., `3` one behind the other, with no lost
       -- block between
-      pub joins-rightly : (k : ℕ) → r image slot pl out .answer ≡ RecordOf k next
-          → (q : Record) × (take k (r image slot pl out .after) ≡ q .body)
+      pub joins-rightly : (k : ℕ) → r (ask image slot pl out) .answer ≡ RecordOf k next
+          → (q : Record) × (take k (r (ask image slot pl out) .after) ≡ q .body)
           × AfterDropped (ahead (fileIn g image (labelAt g image slot) .params) (fileIn g image (labelAt g image slot) .blocks) (pl .block) (pl .offset)) q next
-      joins-rightly k h = rw (meets .leaves image slot pl out) (joined-rightly image g accepted m slot pl out k next (agreed (RecordOf k next) h))
+      joins-rightly k h = rw (meets (ask image slot pl out) .1) (joined-rightly image g accepted m slot pl out k next (agreed (RecordOf k next) h))
 
   -- ======== DEMAND 2
   -- "reading gives exactly the records the standard puts there"; "Any place in the file may be asked"
@@ -149,25 +122,17 @@ module _ (m : Mode) (r : Reader) (meets : Meets m r) where
   pub local : (image image′ : List ℕ) (g g′ : Geometry) (slot : ℕ) → judged image ≡ Volume g → judged image′ ≡ Volume g′
       → take (indexSectors g * 129) image ≡ take (indexSectors g * 129) image′
       → AgreeOn g (sectorOf g (extent g (labelAt g image slot))) image image′
-      → (pl : Place) (out : List ℕ) → (r image slot pl out .answer ≡ r image′ slot pl out .answer) × (r image slot pl out .after ≡ r image′ slot pl out .after)
+      → (pl : Place) (out : List ℕ) → (r (ask image slot pl out) .answer ≡ r (ask image′ slot pl out) .answer) × (r (ask image slot pl out) .after ≡ r (ask image′ slot pl out) .after)
   local image image′ g g′ slot j j′ index extents pl out =
       let same = locality image image′ g g′ slot j j′ index extents in (
-        meets .answers image slot pl out ∙ same .0 m pl out ∙ sym (meets .answers image′ slot pl out),
-        meets .leaves image slot pl out ∙ same .1 m pl out ∙ sym (meets .leaves image′ slot pl out),
+        meets (ask image slot pl out) .0 ∙ same .0 m pl out ∙ sym (meets (ask image′ slot pl out) .0),
+        meets (ask image slot pl out) .1 ∙ same .1 m pl out ∙ sym (meets (ask image′ slot pl out) .1),
       )
-
-  -- ======== DETERMINACY
-  -- "For each input a contract determines the result and every lent byte afterwards, refusals too. Show that any two results it allows are equal"
-  pub determined-by-contract : (r′ : Reader) → Meets m r′ → (image : List ℕ) (slot : ℕ) (pl : Place) (out : List ℕ)
-      → (r image slot pl out .answer ≡ r′ image slot pl out .answer) × (r image slot pl out .after ≡ r′ image slot pl out .after)
-  determined-by-contract r′ meets′ image slot pl out =
-      reading-determined m image slot pl out _ _ _ _ (meets .answers image slot pl out, meets .leaves image slot pl out)
-      (meets′ .answers image slot pl out, meets′ .leaves image slot pl out)
 
 -- ======== DEMAND 3
 -- "After any of a readable file's sectors fail their check": `reader` reads the file whole before (these bodies and End), and the sectors that `hit` names
 -- fail; "salvage gives, in order, every record no block of which is lost, one gap per lost block at its place, nothing more".
-module _ (reader salvager : Reader) (reads : Meets plain reader) (salvages : Meets salvage salvager)
+module _ (reader salvager : Reader) (reads : Reads plain reader) (salvages : Reads salvage salvager)
     (image image′ : List ℕ) (g : Geometry) (slot : ℕ) (bodies : List (List ℕ)) (hit : ℕ → Bool) (accepted : judged image ≡ Volume g)
     (readings : ℕ) (lent : List ℕ) (readable : followed readings reader image slot lent start ≡ map told bodies ++ (done ∷ []))
     (fail : Failed g hit image image′) (spares : Spares g hit image (labelAt g image slot)) where
@@ -205,23 +170,23 @@ module _ (reader salvager : Reader) (reads : Meets plain reader) (salvages : Mee
 -- "These programs have to be rejected: one refusing everything and one naming the same record each time ..; a reader or salvager that gives the first record
 -- and then only End ..; an invented .. gap". Of example 9 of document 01 in an image (`image`, in Instances: bodies of 8, 12 and 3 bytes in three blocks), and
 -- of the same with block 1 lost (`failedAt geometry 9 image`, example 10), any function that meets the contract is heard thus:
-pub reader-heard : (r : Reader) → Meets plain r
+pub reader-heard : (r : Reader) → Reads plain r
     → followed 4 r image 1 output start ≡ told (bytes "AAAAAAAA") ∷ told (bytes "BBBBBBBBBBBB") ∷ told (bytes "CCC") ∷ done ∷ []
 reader-heard r meets = followed-is plain r meets 4 image 1 output start ∙ computed .1
 
-pub salvager-heard : (r : Reader) → Meets salvage r
+pub salvager-heard : (r : Reader) → Reads salvage r
     → followed 4 r (failedAt geometry 9 image) 1 output start ≡ told (bytes "AAAAAAAA") ∷ hole 1 ∷ told (bytes "CCC") ∷ done ∷ []
 salvager-heard r meets = followed-is salvage r meets 4 (failedAt geometry 9 image) 1 output start ∙ computed .2
 
-refused-at-once : (r : Reader) (image : List ℕ) (x : Refusal) → r image 1 start output .answer ≡ Unanswered x
+refused-at-once : (r : Reader) (image : List ℕ) (x : Refusal) → r (ask image 1 start output) .answer ≡ Unanswered x
     → followed 4 r image 1 output start ≡ refused x ∷ []
 unfolding followed
 refused-at-once r image x h =
-    ap (λ (a : Answer). onward a (r image 1 start output .after) (λ out′ pl′. followed 3 r image 1 out′ pl′)) h
+    ap (λ (a : Answer). onward a (r (ask image 1 start output) .after) (λ out′ pl′. followed 3 r image 1 out′ pl′)) h
 
 -- so that one who is heard otherwise meets no contract. One that refuses everything: it would refuse the start of this file
-module _ (r : Reader) (meets : Meets plain r) where
-  pub no-refusing : (x : Refusal) → r image 1 start output .answer ≡ Unanswered x → ⊥
+module _ (r : Reader) (meets : Reads plain r) where
+  pub no-refusing : (x : Refusal) → r (ask image 1 start output) .answer ≡ Unanswered x → ⊥
   no-refusing x h = let e = sym (reader-heard r meets) ∙ refused-at-once r image x h in never (cc)
 
   -- one that names the same record each time:
@@ -232,8 +197,8 @@ module _ (r : Reader) (meets : Meets plain r) where
   pub no-stopping : (body : List ℕ) → followed 4 r image 1 output start ≡ told body ∷ done ∷ [] → ⊥
   no-stopping body h = let e = sym (reader-heard r meets) ∙ h in never (cc)
 
-module _ (r : Reader) (meets : Meets salvage r) where
-  pub no-refusing-salvage : (x : Refusal) → r (failedAt geometry 9 image) 1 start output .answer ≡ Unanswered x → ⊥
+module _ (r : Reader) (meets : Reads salvage r) where
+  pub no-refusing-salvage : (x : Refusal) → r (ask (failedAt geometry 9 image) 1 start output) .answer ≡ Unanswered x → ⊥
   no-refusing-salvage x h = let e = sym (salvager-heard r meets) ∙ refused-at-once r (failedAt geometry 9 image) x h in never (cc)
 
   pub no-repeating-salvage : (body : List ℕ) (more : List Heard) → followed 4 r (failedAt geometry 9 image) 1 output start ≡ told body ∷ told body ∷ more → ⊥
@@ -243,9 +208,9 @@ module _ (r : Reader) (meets : Meets salvage r) where
   no-stopping-salvage body h = let e = sym (salvager-heard r meets) ∙ h in never (cc)
 
 -- one that invents a gap: where no block of the file is lost, none is answered, whatever the place
-pub no-inventing : (m : Mode) (r : Reader) → Meets m r → (image : List ℕ) (g : Geometry) (slot : ℕ) → judged image ≡ Volume g
+pub no-inventing : (m : Mode) (r : Reader) → Reads m r → (image : List ℕ) (g : Geometry) (slot : ℕ) → judged image ≡ Volume g
     → ((b : ℕ) → LostIn (fileIn g image (labelAt g image slot)) b → ⊥)
-    → (pl : Place) (out : List ℕ) (next : Place) → r image slot pl out .answer ≡ Gap next → ⊥
+    → (pl : Place) (out : List ℕ) (next : Place) → r (ask image slot pl out) .answer ≡ Gap next → ⊥
 no-inventing m r meets image g slot accepted none pl out next h =
     let (inside, b, lost, at) = gap-hands-out m r meets image slot pl out g accepted next h in
     none b lost

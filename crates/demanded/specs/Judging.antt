@@ -1,0 +1,170 @@
+-- DEMAND 2 OF FUNCTIONS THAT JUDGE, FIND AND COUNT, for a reader who proves nothing: what an accepted volume is, what is found and handed out of it, how many
+-- blocks a file has and how many records are free; said of any function that meets the contract (Calls), whatever its code. What holds of every call, demand 1
+-- and that a contract leaves no choice, is in Called. The lines behind `=` only name the proof. `A → B`: if A then B; `A × B`: both; `A → ⊥`: not A.
+-- Assumes nothing.
+use Prim.Native.Nat.{ℕ, _+_, _*_, _≤_}
+use mathlib.Core.Path.{_≡_, refl, sym, ap, _∙_}
+use mathlib.Core.Bool.{true}
+use mathlib.Core.List.{List, List·Memᴰ}
+use lib.ListN.{length, take, drop}
+use native.Mathlib.Omega.{arith}
+use Rattle.standard.specs.Characters.{bytes, oneOf, same}
+use Rattle.standard.specs.Layout.{indexSectors, labelAt, slotCount, kAt, bodySize, kindOffset, bodyOffset, slotOrdinal, labelOffset, kindAt, bodyAt, validMark}
+use Rattle.standard.specs.Addresses.{ordinal, addressCount, legal, rank}
+use Rattle.standard.specs.Labels.{knownLevel, nameOf}
+use Rattle.standard.specs.Slots.{hasLabel, isLabel}
+use Rattle.standard.specs.Judgement.{judged}
+use Rattle.standard.specs.Finding.{found, foundAt}
+use Rattle.standard.specs.Free.{freeRecords, inExtent}
+use Rattle.standard.specs.Files.{extent, blockCount, countOr, countRefusal, counted}
+use Rattle.standard.specs.Writing.{imageAfter}
+use Rattle.standard.specs.declared.Geometry.{Geometry}
+use Rattle.standard.specs.declared.Address.{Address}
+use Rattle.standard.specs.declared.Refusal.{Refusal}
+use Rattle.standard.specs.declared.Checked.{Checked}
+use Rattle.standard.specs.declared.Checked.the-variants.{Passed, Stopped}
+use Rattle.standard.specs.declared.Judged.{Judged}
+use Rattle.standard.specs.declared.Judged.the-variants.{Refused, Volume}
+use Rattle.standard.specs.declared.Found.{Found}
+use Rattle.standard.specs.declared.Found.the-variants.{Unfound, At}
+use Rattle.standard.specs.declared.Counted.{Counted}
+use Rattle.standard.specs.declared.Counted.the-variants.{Uncounted, Count}
+use Rattle.promises.specs.Basics.{never}
+use Rattle.promises.specs.Refusing.{Exactly}
+use Rattle.promises.specs.VolumeNumbers.{Numbers, numbers-of}
+use Rattle.promises.specs.VolumePromises.{RecordInRange}
+use Rattle.promises.specs.FindingLaws.{find-slot as found-in-slot, slot-handed-out}
+use Rattle.promises.specs.FreeLaws.{extentsBelow}
+use Rattle.promises.specs.Sectors.{AgreeOn, sectorOf}
+use Rattle.promises.specs.Demands.{extents-in-range, sharing-no-record, extent-is, finding-gives, label-given, free-gives, locality, write-counts}
+use Rattle.promises.specs.Instances.{demo, demoVolume, demoBodies, demoLengths, demo-accepted}
+use Rattle.demanded.specs.Calls.{Outcome, Meets, ByName, InSlot, named, inSlot, judge, find, find-slot, label-named, label-in-slot, free, count, contract}
+
+-- ======== JUDGING
+module _ (judger : List ℕ → Outcome Judged) (judges : Meets (contract judge) judger) where
+  module _ (image : List ℕ) (g : Geometry) (accepts : judger image .answer ≡ Volume g) where
+    pub accepted : judged image ≡ Volume g
+    accepted = sym (judges image .0) ∙ accepts
+
+    -- L, I, D, P and S are those that VOL1 may have
+    pub numbers-in-range : Numbers g
+    numbers-in-range = numbers-of image g accepted
+
+    -- "extents in range": the address of every record of an extent is one of the volume, its sector behind the index cylinder and on no defective one, its
+    -- bytes inside the image; and an extent has exactly the addresses from its start to its end
+    pub keeps-extents-in-range : (slot : ℕ) (a : Address) → hasLabel g image slot ≡ true → List·Memᴰ a (extent g (labelAt g image slot)) → RecordInRange image g a
+    keeps-extents-in-range slot a h = extents-in-range image g slot a accepted h
+
+    pub has-whole-extents : (slot : ℕ) (a : Address) → hasLabel g image slot ≡ true
+        → Exactly (List·Memᴰ a (extent g (labelAt g image slot))) ((legal g a ≡ true) × (inExtent g (labelAt g image slot) (rank g a) ≡ true))
+    has-whole-extents slot a h = extent-is image g slot a accepted h
+
+    -- "sharing no record"
+    pub shares-no-record : (slot other : ℕ) (a b : Address) → hasLabel g image slot ≡ true → hasLabel g image other ≡ true
+        → List·Memᴰ a (extent g (labelAt g image slot)) → List·Memᴰ b (extent g (labelAt g image other)) → ordinal g a ≡ ordinal g b → slot ≡ other
+    shares-no-record slot other a b = sharing-no-record image g slot other a b accepted
+
+  -- "These programs have to be rejected: one refusing everything": a small volume with an empty file (`demo`, in Instances) is accepted
+  pub no-refusing-judge : (x : Refusal) → judger demo .answer ≡ Refused x → ⊥
+  no-refusing-judge x h = let e = sym (demo-accepted .1) ∙ (sym (judges demo .0) ∙ h) in never (cc)
+
+-- ======== FINDING
+module _ (finder : ByName → Outcome Found) (finds : Meets (contract find) finder) where
+  -- "Names are 17 bytes, found among levels space, 1, 2 only"
+  pub finds-exactly : (image name : List ℕ) (g : Geometry) (slot offset : ℕ) → judged image ≡ Volume g
+      → Exactly (finder (named image name) .answer ≡ At slot offset)
+      ((1 ≤ slot) × (slot ≤ slotCount g) × (isLabel g image slot ≡ true) × (knownLevel (labelAt g image slot) ≡ true)
+      × (nameOf (labelAt g image slot) ≡ name) × (offset ≡ labelOffset g slot))
+  finds-exactly image name g slot offset j =
+      let e = finding-gives image g j name slot offset in
+      let is = finds (named image name) .0 in
+      ((λ h. e .0 (sym is ∙ h)), (λ f. is ∙ e .1 f))
+
+  -- "A file's label is handed out as the 128 bytes in the image itself": the bytes from the offset on that is found
+  pub hands-out-named : (labeler : ByName → Outcome (List ℕ)) → Meets (contract label-named) labeler → (image name : List ℕ) (g : Geometry) (slot offset : ℕ)
+      → judged image ≡ Volume g → finder (named image name) .answer ≡ At slot offset
+      → (labeler (named image name) .answer ≡ take 128 (drop offset image)) × (length (labeler (named image name) .answer) ≡ 128)
+  hands-out-named labeler labels image name g slot offset j h =
+      let l = label-given image g j name slot offset (sym (finds (named image name) .0) ∙ h) in
+      let is = labels (named image name) .0 in
+      (is ∙ l .0, ap length is ∙ l .1)
+
+  -- one that refuses everything: the file of `demo` is found
+  pub no-refusing-find : (x : Refusal) → finder (named demo (bytes "LOG              ")) .answer ≡ Unfound x → ⊥
+  unfolding oneOf same kAt bodySize kindOffset bodyOffset slotOrdinal labelOffset labelAt kindAt bodyAt validMark slotCount isLabel knownLevel
+  no-refusing-find x h =
+      let f = finds-exactly demo (bytes "LOG              ") demoVolume 1 904 (demo-accepted .1) .1 (omega arith, omega arith, refl, refl, refl, refl) in
+      let e = sym f ∙ h in
+      never (cc)
+
+module _ (finder : InSlot → Outcome Found) (finds : Meets (contract find-slot) finder) where
+  pub finds-slot-exactly : (image : List ℕ) (g : Geometry) (slot s offset : ℕ) → judged image ≡ Volume g
+      → Exactly (finder (inSlot image slot) .answer ≡ At s offset) ((hasLabel g image slot ≡ true) × (s ≡ slot) × (offset ≡ labelOffset g slot))
+  finds-slot-exactly image g slot s offset j =
+      let e = found-in-slot image g j slot s offset in
+      let is = finds (inSlot image slot) .0 in
+      ((λ h. e .0 (sym is ∙ h)), (λ f. is ∙ e .1 f))
+
+  pub hands-out-in-slot : (labeler : InSlot → Outcome (List ℕ)) → Meets (contract label-in-slot) labeler → (image : List ℕ) (g : Geometry) (slot s offset : ℕ)
+      → judged image ≡ Volume g → finder (inSlot image slot) .answer ≡ At s offset
+      → (labeler (inSlot image slot) .answer ≡ take 128 (drop offset image)) × (length (labeler (inSlot image slot) .answer) ≡ 128)
+  hands-out-in-slot labeler labels image g slot s offset j h =
+      let l = slot-handed-out image g j slot s offset (sym (finds (inSlot image slot) .0) ∙ h) in
+      let is = labels (inSlot image slot) .0 in
+      (is ∙ l .0, ap length is ∙ l .1)
+
+-- ======== COUNTING
+counted-exactly : (c : Checked) (blocks n : ℕ) → Exactly (countOr c blocks ≡ Count n) ((c ≡ Passed) × (n ≡ blocks))
+counted-exactly Passed blocks n = ((λ h. (refl, cc)), (λ p. ap Count (sym (p .1))))
+counted-exactly (Stopped r) blocks n = ((λ h. never (cc)), (λ p. never (let e = p .0 in cc)))
+
+module _ (counter : InSlot → Outcome Counted) (counts : Meets (contract count) counter) where
+  -- "The number of blocks is 0 if data end = start; .." (`blockCount`), where the count is not refused
+  pub counts-exactly : (image : List ℕ) (g : Geometry) (slot n : ℕ) → judged image ≡ Volume g
+      → Exactly (counter (inSlot image slot) .answer ≡ Count n) ((countRefusal g image slot ≡ Passed) × (n ≡ blockCount g image (labelAt g image slot)))
+  unfolding counted
+  counts-exactly image g slot n j =
+      let e = counted-exactly (countRefusal g image slot) (blockCount g image (labelAt g image slot)) n in
+      let is : counter (inSlot image slot) .answer ≡ countOr (countRefusal g image slot) (blockCount g image (labelAt g image slot)) =
+      counts (inSlot image slot) .0 ∙ rw j in
+      ((λ h. e .0 (sym is ∙ h)), (λ p. is ∙ e .1 p))
+
+  -- "Two accepted images equal in the index cylinder and in one file's extent give equal answers": the count too
+  pub counts-locally : (image image′ : List ℕ) (g g′ : Geometry) (slot : ℕ) → judged image ≡ Volume g → judged image′ ≡ Volume g′
+      → take (indexSectors g * 129) image ≡ take (indexSectors g * 129) image′
+      → AgreeOn g (sectorOf g (extent g (labelAt g image slot))) image image′
+      → counter (inSlot image slot) .answer ≡ counter (inSlot image′ slot) .answer
+  counts-locally image image′ g g′ slot j j′ index extents =
+      counts (inSlot image slot) .0 ∙ locality image image′ g g′ slot j j′ index extents .2 ∙ sym (counts (inSlot image′ slot) .0)
+
+  -- "an invented block .. count": another number than that of the blocks
+  pub no-inventing-blocks : (image : List ℕ) (g : Geometry) (slot n : ℕ) → judged image ≡ Volume g → (n ≡ blockCount g image (labelAt g image slot) → ⊥)
+      → counter (inSlot image slot) .answer ≡ Count n → ⊥
+  no-inventing-blocks image g slot n j other h = other (counts-exactly image g slot n j .0 h .1)
+
+  -- one that refuses everything: the file of `demo`, after a write of two records, has one block
+  pub no-refusing-count : (x : Refusal) → counter (inSlot (imageAfter demo 1 demoBodies demoLengths) 1) .answer ≡ Uncounted x → ⊥
+  no-refusing-count x h =
+      let one = write-counts demo demoVolume 1 demoBodies demoLengths 1 (demo-accepted .1) (demo-accepted .3) .1 in
+      let e = sym one ∙ (sym (counts (inSlot (imageAfter demo 1 demoBodies demoLengths) 1) .0) ∙ h) in
+      never (cc)
+
+-- ======== FREE RECORDS
+module _ (counter : List ℕ → Outcome Counted) (counts : Meets (contract free) counter) where
+  -- all data addresses less the sizes of the labels' extents
+  pub counts-free : (image : List ℕ) (g : Geometry) → judged image ≡ Volume g
+      → (counter image .answer ≡ Count (freeRecords g image)) × (freeRecords g image + extentsBelow g image (slotCount g) ≡ addressCount g)
+  counts-free image g j = let f = free-gives image g j in (counts image .0 ∙ f .0, f .1)
+
+  -- "an invented .. free count": one that with the extents does not make up all data addresses
+  pub no-inventing-free : (image : List ℕ) (g : Geometry) (n : ℕ) → judged image ≡ Volume g → (n + extentsBelow g image (slotCount g) ≡ addressCount g → ⊥)
+      → counter image .answer ≡ Count n → ⊥
+  no-inventing-free image g n j other h =
+      let f = counts-free image g j in
+      let e = sym (f .0) ∙ h in
+      let same : freeRecords g image ≡ n = cc in
+      other (ap (λ (k : ℕ). k + extentsBelow g image (slotCount g)) (sym same) ∙ f .1)
+
+  -- one that refuses everything
+  pub no-refusing-free : (x : Refusal) → counter demo .answer ≡ Uncounted x → ⊥
+  no-refusing-free x h = let e = sym (counts-free demo demoVolume (demo-accepted .1) .0) ∙ h in never (cc)
