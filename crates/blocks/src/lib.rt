@@ -1,4 +1,4 @@
-// The bytes of a file's good records in turn, read where they stand in the image. A place is a cursor and a byte of the record under it; what stands from there
+// The bytes of a file's good records in turn, read where they stand in the image. A spot is a cursor and a byte of the record under it; what stands from there
 // on is a list of bytes, and the functions here read it, pass over it, copy it, and ask whether it is fill. Everything here is inner: the layers above call it on
 // extents of an accepted volume.
 use extents::Cursor;
@@ -46,7 +46,7 @@ fn byte_offset(g: Geometry, c: Cursor, i: u64) -> u64
     kind_offset(g, ordinal_of(g, c.at)) + 1 + i
 }
 
-// The byte at a place, 00 behind the last record.
+// The byte at a spot, 00 behind the last record.
 fn here(g: Geometry, image: &[u8], c: Cursor, i: u64) -> u64
     requires { ⌜ (Fits g (now image)) × (legalAt g c ≡ true) × (i < g .P) ⌝ }
     ensures { λ r. ⌜ (r ≡ getD (stream g (now (image .entry)) c i) 0 0) × (r < 256) ⌝ }
@@ -72,7 +72,7 @@ pub fn onward(g: Geometry, image: &[u8], c: Cursor, i: u64, k: u64) -> Spot
     Spot { c: d, i: to % p }
 }
 
-// The byte at offset k from a place.
+// The byte k bytes on from a spot.
 fn peek(g: Geometry, image: &[u8], c: Cursor, i: u64, k: u64) -> u64
     requires { ⌜ (Fits g (now image)) × (legalAt g c ≡ true) × (i < 4294967296) × (k < 4294967296) ⌝ }
     ensures { λ r. ⌜ (r ≡ getD (stream g (now (image .entry)) c i) k 0) × (r < 256) ⌝ }
@@ -95,7 +95,7 @@ fn five_at(image: &[u8], o: usize) -> Five
     }
 }
 
-// The first five bytes from a place on: in one run where they stand in one record, else byte by byte.
+// The first five bytes from a spot on: in one run where they stand in one record, else byte by byte.
 pub fn first_five(g: Geometry, image: &[u8], c: Cursor, i: u64) -> Five
     requires { ⌜ (Fits g (now image)) × (legalAt g c ≡ true) × (i < g .P) ⌝ }
     ensures { λ r. ⌜ (r ≡ fiveOf (stream g (now (image .entry)) c i)) × (r .a < 256) × (r .b < 256) × (r .c < 256) × (r .d < 256) × (r .e < 256) ⌝ }
@@ -131,7 +131,7 @@ fn fill_run(image: &[u8], from: u64, n: u64) -> bool
     true
 }
 
-// "Fill is byte 00." Whether the bytes from a place on are fill, so many as are asked or as there are: record by record, and none is walked to behind the last
+// "Fill is byte 00." Whether the bytes from a spot on are fill, so many as are asked or as there are: record by record, and none is walked to behind the last
 // one that is asked.
 pub fn all_fill(g: Geometry, image: &[u8], from: Cursor, first: u64, count: u64) -> bool
     requires { ⌜ (Fits g (now image)) × (legalAt g from ≡ true) × (first < g .P) × (count < 65536) ⌝ }
@@ -159,7 +159,7 @@ pub fn all_fill(g: Geometry, image: &[u8], from: Cursor, first: u64, count: u64)
     fill_run(image, byte_offset(g, c, i), n)
 }
 
-// n bytes of the image, laid into the output at a place.
+// n bytes of the image, laid into the output from byte `at` on.
 fn copy_run(image: &[u8], from: u64, out: &mut [u8], at: u64, n: u64)
     requires { ⌜ (from + n ≤ length (now image)) × (at + n ≤ length (now out)) ⌝ }
     ensures { λ r. ⌜ now (out .exit) ≡ paste (now (out .entry)) at (drop from (now (image .entry))) n ⌝ }
@@ -171,7 +171,7 @@ fn copy_run(image: &[u8], from: u64, out: &mut [u8], at: u64, n: u64)
     }
 }
 
-// The bytes from a place on, laid into the output: record by record, as in `all_fill`.
+// The bytes from a spot on, laid into the output: record by record, as in `all_fill`.
 pub fn copy(
     g: Geometry,
     image: &[u8],

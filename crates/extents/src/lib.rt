@@ -131,7 +131,7 @@ pub fn skip_good(g: Geometry, image: &[u8], from: Cursor, n: u64) -> Cursor
     c
 }
 
-// 1 for a good record, 0 for a defective one
+// What a record counts: 1 if it is good, 0 if it is defective.
 fn one_unless(defective: bool) -> u64
     ensures { λ r. ⌜ (r ≡ cond defective 0 1) × (r ≤ 1) ⌝ }
 {

@@ -18,7 +18,7 @@ ghost use Rattle.standard.specs.Addresses.{addressIn, legal, pastLast, rank, is
 ghost use Rattle.fields.specs.Classes.{classed};
 ghost use Rattle.fields.specs.Numbers.{perhaps};
 
-// Tests as numbers and tests joined.
+// Tests of numbers, and tests joined.
 pub fn is(a: u64, b: u64) -> bool
     ensures { λ r. ⌜ r ≡ eqb a b ⌝ }
 {
@@ -38,7 +38,8 @@ pub fn if_so(test: bool, part: bool) -> bool
     !test | part
 }
 
-// "The a-set (house reading): bytes hex 20-22, 25-3F, 41-5A, 5F." That is 20-5F but for seven, which is one look at a row of bits.
+// "The a-set (house reading): bytes hex 20-22, 25-3F, 41-5A, 5F." That is 20-5F but for seven (which a compiler can make one
+// look at a row of bits).
 pub fn in_a_set(c: u64) -> bool
     ensures { λ r. ⌜ r ≡ aSet c ⌝ }
 {

@@ -93,6 +93,7 @@ pub fn numbers_of(g: Geometry, h: &[u8]) -> Numbers
     }
 }
 
+// How many addresses of the extent lie before the data end: all of them, where it is beyond.
 fn before_end(end: u64, first: u64, last: u64, size: u64) -> u64
     ensures { λ r. ⌜ r ≡ cond (leb end last) (end - first) size ⌝ }
 {
@@ -118,7 +119,7 @@ fn ended(n: Numbers, slot: u64, good: u64) -> Counted
 }
 
 // Refusals 17 and 18, or the number of blocks, from what one walk over the extent found: where it found no defective record, good records need no counting.
-// (Inner: reading asks it, to walk once.)
+// (Inner: opening asks it, to walk once.)
 pub fn tally_by(g: Geometry, image: &[u8], n: Numbers, slot: u64, found: Condition) -> Counted
     requires { ⌜ (0 < n .m) × (n .before ≤ n .size) × (n .size < 4294967296) × (legalOn g (n .size) (n .start) ≡ true) × (found ≡ surveyed g (now image) false (addressesFrom g (n .size) (n .start))) ⌝ }
     ensures { λ r. ⌜ r ≡ tallied g (now (image .entry)) n slot ⌝ }

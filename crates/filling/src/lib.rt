@@ -118,7 +118,7 @@ fn kind_behind(g: Geometry, a: Address, next: Address, end: u64) -> u64
 }
 
 // From the end of a record to the next good one, where a byte is still to come; behind the last record the pen stays. A record without the incorrect mark is good,
-// and most next ones are: its place is found once.
+// and most next ones are: where it begins is found once.
 fn turn(g: Geometry, image: &mut [u8], p: Pen) -> Pen
     requires { ⌜ (Placed g (now image) p) × (p .i ≡ g .P) ⌝ }
     ensures { λ r. ⌜ Turned g (now (image .entry)) p (now (image .exit)) r ⌝ }
@@ -172,7 +172,7 @@ fn put_in(g: Geometry, image: &mut [u8], p: Pen, bytes: &[u8], from: u64, n: u64
     }
 }
 
-// the lesser
+// The lesser of two numbers.
 pub fn least(a: u64, b: u64) -> u64
     ensures { λ r. ⌜ (r ≤ a) × (r ≤ b) × (r ≡ cond (leb a b) a b) ⌝ }
 {
@@ -215,7 +215,7 @@ pub fn put(
     put_in(g, image, p, bytes, from, n, zeros)
 }
 
-// a digit of a number, as a character: the one that is worth so much
+// A digit of a number, as a character: the one that is worth so much.
 fn digit_at(n: u64, worth: u64) -> u8
     requires { ⌜ 0 < worth ⌝ }
     ensures { λ r. ⌜ r ≡ digitOf (n / worth) ⌝ }

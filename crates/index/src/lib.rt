@@ -133,7 +133,7 @@ pub fn is_known(g: Geometry, image: &[u8], slot: u64) -> bool
     known_level(label_at(g, image, slot))
 }
 
-// An extent by the ranks of its start and its end.
+// An extent by the ranks of its start and its end. A slot with no label has one that begins behind every end, so that it meets none.
 pub struct Extent {
     pub start: u32,
     pub end: u32,
@@ -201,7 +201,8 @@ fn shares_below(
     meets_any(starts, ends, x, slot - 1)
 }
 
-// "extent shares a record with a lower slot's", "lowest such slot". Each label's addresses are read once.
+// "extent shares a record with a lower slot's", "lowest such slot". Each label's addresses are read once, into two rows: a volume has at most
+// 45 slots.
 pub fn shared(g: Geometry, image: &[u8]) -> Checked
     requires { ⌜ Slotted g (now image) ⌝ }
     ensures { λ r. ⌜ r ≡ refusal11 g (now (image .entry)) ⌝ }
@@ -223,6 +224,7 @@ pub fn shared(g: Geometry, image: &[u8]) -> Checked
     Checked::Passed
 }
 
+// Eight bytes as one number.
 fn eight_from(s: &[u8], at: usize) -> u64
     requires { ⌜ (at < 121) × (length (now s) ≡ 128) ⌝ }
     ensures { λ r. ⌜ r ≡ eightFrom (now (s .entry)) at ⌝ }
@@ -237,6 +239,7 @@ fn eight_from(s: &[u8], at: usize) -> u64
         + wide(s[at + 7]) * 72057594037927936
 }
 
+// The beginning and the end of a name in one number: names whose numbers differ are not compared byte by byte.
 fn name_key(h: &[u8]) -> u64
     requires { ⌜ length (now h) ≡ 128 ⌝ }
     ensures { λ r. ⌜ r ≡ keyOf (nameOf (now (h .entry))) ⌝ }

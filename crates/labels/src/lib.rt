@@ -1,4 +1,5 @@
-// A label: what its fields say, and which of its rules is broken. A label is the 128 bytes of its slot; all functions serve the layers above (inner).
+// A label: what its fields say. (Which of its rules is broken is said in `checks` and `rules`.) A label is the 128 bytes of its slot; all functions serve the
+// layers above (inner).
 use fields::Class;
 use fields::all_of;
 use fields::is;
@@ -27,7 +28,7 @@ pub enum Form {
     Spanned,
 }
 
-// "1-4 `HDR1`"
+// "A slot is a label (valid mark, `HDR1`)": positions 1-4.
 pub fn is_hdr1(h: &[u8]) -> bool
     requires { ⌜ length (now h) ≡ 128 ⌝ }
     ensures { λ r. ⌜ r ≡ same (field (now (h .entry)) 1 4) (bytes "HDR1") ⌝ }

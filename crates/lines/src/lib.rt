@@ -51,6 +51,7 @@ fn put_named(out: &mut [u8], at: usize, name: &[u8], n: u64) -> usize
     put_number(out, next, n)
 }
 
+// The numbers of the volume line.
 fn put_numbers(out: &mut [u8], at: usize, g: Geometry) -> usize
     requires { ⌜ at < 8388608 ⌝ }
     ensures { λ r. ⌜ Puts (now (out .entry)) (now (out .exit)) at r (numbersShown g) × (r ≤ at + 140) ⌝ }
@@ -137,6 +138,7 @@ fn put_count(out: &mut [u8], at: usize, count: Counted) -> usize
     }
 }
 
+// Slot, name, level, format, blocked.
 fn put_first(out: &mut [u8], at: usize, slot: u64, h: &[u8]) -> usize
     requires { ⌜ (at < 8388608) × (length (now h) ≡ 128) ⌝ }
     ensures { λ r. ⌜ Puts (now (out .entry)) (now (out .exit)) at r (firstFields slot (now (h .entry))) × (r ≤ at + 50) ⌝ }
@@ -149,6 +151,7 @@ fn put_first(out: &mut [u8], at: usize, slot: u64, h: &[u8]) -> usize
     put_character(out, blocked, blocked_shown(h))
 }
 
+// B and R.
 fn put_lengths(out: &mut [u8], at: usize, h: &[u8]) -> usize
     requires { ⌜ (at < 8388608) × (length (now h) ≡ 128) ⌝ }
     ensures { λ r. ⌜ Puts (now (out .entry)) (now (out .exit)) at r (lengthFields (now (h .entry))) × (r ≤ at + 42) ⌝ }
@@ -157,6 +160,7 @@ fn put_lengths(out: &mut [u8], at: usize, h: &[u8]) -> usize
     put_amount(out, next, record_length(h))
 }
 
+// Start and end.
 fn put_extent(out: &mut [u8], at: usize, h: &[u8]) -> usize
     requires { ⌜ (at < 8388608) × (length (now h) ≡ 128) ⌝ }
     ensures { λ r. ⌜ Puts (now (out .entry)) (now (out .exit)) at r (extentFields (now (h .entry))) × (r ≤ at + 12) ⌝ }
@@ -165,6 +169,7 @@ fn put_extent(out: &mut [u8], at: usize, h: &[u8]) -> usize
     put_address(out, next, end_of(h))
 }
 
+// Blocks and U, and the end of the line.
 fn put_last(out: &mut [u8], at: usize, count: Counted, h: &[u8]) -> usize
     requires { ⌜ (at < 8388608) × (length (now h) ≡ 128) ⌝ }
     ensures { λ r. ⌜ Puts (now (out .entry)) (now (out .exit)) at r (lastFields count (now (h .entry))) × (r ≤ at + 44) ⌝ }

@@ -160,7 +160,7 @@ fn look_s(g: Geometry, image: &[u8], c: Cursor, i: u64, n: u64) -> Seen
     sized_s(n, w.a, four_digits(w.b, w.c, w.d, w.e))
 }
 
-// What stands at offset o of a block, where its content goes on for n bytes from the place on.
+// What stands at offset o of a block: at byte i of the record under the cursor, from which its content goes on for n bytes.
 pub fn look(
     g: Geometry,
     image: &[u8],

@@ -64,7 +64,7 @@ pub label-in-range : (image : List ℕ) (g : Geometry) (slot : ℕ) → judged i
 label-in-range image g slot j h =
     fault-none g (labelAt g image slot) (label-faultless image g slot j h)
 
--- no address number is in the extents of two labels
+-- no rank is in the extents of two labels
 pub extent-bounds : (g : Geometry) (h : List ℕ) (i : ℕ) → inExtent g h i ≡ true → (rank g (startOf h) ≤ i) × (i ≤ rank g (endOf h))
 unfolding inExtent
 extent-bounds g h i e =

@@ -156,7 +156,7 @@ module _ (image : List ℕ) (g : Geometry) (accepted : judged image ≡ Volume g
       → (labelNamed image name ≡ take 128 (drop offset image)) × (length (labelNamed image name) ≡ 128)
   label-given = label-handed-out image g accepted
 
-  -- the free records: all data addresses less the sizes of the labels' extents
+  -- the free records: all data addresses less the sizes of the labels' extents (`extentsBelow g image n`: of the labels in the slots 1 to n, in all)
   pub free-gives : (freeCount image ≡ Count (freeRecords g image)) × (freeRecords g image + extentsBelow g image (slotCount g) ≡ addressCount g)
   free-gives = (free-counted image g accepted, free-is image g accepted)
 
@@ -175,7 +175,7 @@ module _ (image : List ℕ) (g : Geometry) (slot : ℕ) (accepted : judged image
       → following n m image slot out pl ≡ heardIn (length out) (take n (listedFrom m file pl))
   reading-gives-from = following-from image g slot accepted opens
 
--- every place handed out is in the file; a gap's is the start, marked, of the block behind a lost one; End's is (count, 0)
+-- every place handed out is in the file; a gap's is the start, marked, of the block behind a lost one (`LostIn file b`: block b is lost); End's is (count, 0)
 module _ (image : List ℕ) (g : Geometry) (accepted : judged image ≡ Volume g) (m : Mode) (slot : ℕ) (pl : Place) (out : List ℕ) (next : Place) where
   pub record-leads : (k : ℕ) → readAnswer m image slot pl out ≡ RecordOf k next → inFile (fileIn g image (labelAt g image slot)) next ≡ true
   record-leads = record-next image g accepted m slot pl out next
@@ -203,7 +203,7 @@ module _ (image : List ℕ) (g : Geometry) (slot : ℕ) (bodies lengths : List �
   passed : writeRefusal g image slot bodies lengths ≡ Passed
   passed = accepted-write image g accepted slot bodies lengths n done
 
-  -- the list is the bodies lent, each of its length
+  -- the list is the bodies lent, each of its length (`joined`: one behind the other)
   pub write-list : (map length (parted bodies lengths) ≡ lengths) × (joined (parted bodies lengths) ≡ bodies)
   write-list = records-are image g slot bodies lengths accepted passed
 
@@ -213,6 +213,7 @@ module _ (image : List ℕ) (g : Geometry) (slot : ℕ) (bodies lengths : List �
       let same : n ≡ needed label bodies lengths = cc in
       (same, counts image g slot bodies lengths accepted passed ∙ ap Count (sym same))
 
+  -- `told body`: a record with these bytes is heard; `ended`: End is; `RoomFor room lengths`: none of the lengths is above the room
   pub write-reads-back : (m : Mode) (readings : ℕ) (out : List ℕ) → RoomFor (length out) lengths → length lengths + 1 ≤ readings
       → following readings m after slot out start ≡ map told (parted bodies lengths) ++ (ended ∷ [])
   write-reads-back = written-heard-all image g slot bodies lengths accepted passed
@@ -268,7 +269,8 @@ module _ (image : List ℕ) (g : Geometry) (slot : ℕ) (bodies lengths : List �
 -- "After any of a readable file's sectors fail their check" (`ReadsWhole`: plain reading gives these bodies and End; `Failed`: the other sectors have the same
 -- bytes, those that `hit` names have the kind of a failed check and any bytes behind it; `Spares`: any sector may fail but those of the index cylinder and
 -- those of defective records of this file's extent, of which docs/DECISIONS.md, 7.12, tells), "salvage gives, in order, every record no block of which is
--- lost, one gap per lost block at its place, nothing more" (`Salvaged`: its list, its records, its gaps; in Failing). What a caller hears is that list.
+-- lost, one gap per lost block at its place, nothing more" (`Salvaged`: its list, its records, its gaps; `expected`: that list, block by block
+-- a gap, or the records that end there and have no lost block, and then End; both in Failing). What a caller hears is that list. `bodyOf`: a record's bytes.
 module _ (image image′ : List ℕ) (g : Geometry) (slot : ℕ) (bodies : List (List ℕ)) (hit : ℕ → Bool) (accepted : judged image ≡ Volume g)
     (readable : ReadsWhole image slot bodies) (fail : Failed g hit image image′) (spares : Spares g hit image (labelAt g image slot)) where
   pub salvage-gives : (rs : List Record) × (map bodyOf rs ≡ bodies) × Salvaged g hit image image′ slot rs
@@ -301,7 +303,8 @@ pub joined-rightly : (image : List ℕ) (g : Geometry) → judged image ≡ Volu
 joined-rightly = record-stands
 
 -- ======== LOCALITY
--- "Two accepted images equal in the index cylinder and in one file's extent give equal answers to every reading of that file."
+-- "Two accepted images equal in the index cylinder and in one file's extent give equal answers to every reading of that file." `AgreeOn g set`: the images have
+-- the same bytes in every sector of the set; `sectorOf g addresses`: the set of the sectors that have these addresses.
 pub locality : (image image′ : List ℕ) (g g′ : Geometry) (slot : ℕ) → judged image ≡ Volume g → judged image′ ≡ Volume g′
     → take (indexSectors g * 129) image ≡ take (indexSectors g * 129) image′
     → AgreeOn g (sectorOf g (extent g (labelAt g image slot))) image image′

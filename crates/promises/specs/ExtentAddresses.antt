@@ -17,7 +17,7 @@ use Rattle.promises.specs.Lists.{Every, every-map}
 use Rattle.promises.specs.AddressLaws.{Legal, rank-lt, step-rank, step-legal}
 use Rattle.promises.specs.AcceptedLaws.{InRange}
 
--- legal addresses in rising order, from one number to another
+-- legal addresses in rising order, from one rank to another
 module _ (g : Geometry) where
   abbrev pub Rising : ℕ → ℕ → List Address → Type 0
   Rising lo hi [] = Unit {0}

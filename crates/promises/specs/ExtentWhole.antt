@@ -30,7 +30,7 @@ use Rattle.promises.specs.VolumePromises.{in-extent}
 use Rattle.promises.specs.Refusing.{Exactly}
 use Rattle.promises.specs.PlacesNamed.{place-11}
 
--- two addresses have two numbers
+-- two addresses have two ranks
 pub rank-inj : (g : Geometry) (a b : Address) → legal g a ≡ true → legal g b ≡ true → rank g a ≡ rank g b → a ≡ b
 unfolding rank
 rank-inj g a b ha hb e =

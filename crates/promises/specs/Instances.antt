@@ -1,5 +1,5 @@
--- Two small images in which the theorems say something: what is promised of images is promised of these. Examples 9 and 10 of the document in an image, and a
--- volume with a write to it that is accepted.
+-- Three small images in which the theorems say something: what is promised of images is promised of these. Examples 9 and 10 of the document in an image; a file
+-- with a defective record, which shows what demand 3 does not promise; and a volume with a write to it that is accepted.
 -- Assumes nothing.
 use Prim.Native.Nat.{ℕ, zero, suc, _-_, _<_}
 use mathlib.Core.Path.{_≡_, refl, subst, ap, _∙_}
@@ -72,7 +72,7 @@ output = replicate 12 255
 abbrev pub geometry : Geometry
 geometry = record { L = 1; I = 8; D = 3; k = 0; P = 128; S = 1; d1 = 0; d2 = 0 }
 
--- The same with F, B = R = 256 and D = 5, where the first record of the extent is defective. Its two blocks are A, B and C, D of 128 bytes each.
+-- THE SECOND: the same with F, B = R = 256 and D = 5, where the first record of the extent is defective. Its two blocks are A, B and C, D of 128 bytes each.
 abbrev of128 : ℕ → List ℕ
 of128 c = replicate 128 c
 
@@ -147,7 +147,7 @@ pub plain-instance : ReadUpTo geometry (failedIn geometry (9 ∷ []) image) 1 1 
 plain-instance =
     plain-up-to image (failedIn geometry (9 ∷ []) image) geometry 1 (among (9 ∷ [])) (salvaged-instance .0) (salvaged-instance .2) 1 first-gone
 
--- THE SECOND: L = 1, I = 8, D = 1, P = 128, S = 1 (1,548 bytes), with one label: V blocked, B = 128, R = 100, in one record
+-- THE THIRD: L = 1, I = 8, D = 1, P = 128, S = 1 (1,548 bytes), with one label: V blocked, B = 128, R = 100, in one record
 abbrev pub demo : List ℕ
 demo =
     blankSectors 4

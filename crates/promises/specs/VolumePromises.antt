@@ -25,7 +25,7 @@ use Rattle.promises.specs.AcceptedLaws.{image-length, InRange, label-in-
 use Rattle.promises.specs.ExtentAddresses.{Between, rising-every, extent-rising}
 use Rattle.promises.specs.VolumeNumbers.{defects-in-order}
 
--- the addresses of an extent are legal, and their numbers are those from its start to its end
+-- the addresses of an extent are legal, and their ranks are those from its start to its end
 pub in-extent : (g : Geometry) (h : List ℕ) (b : Address) → InRange g h → List·Memᴰ b (extent g h) → (legal g b ≡ true) × (inExtent g h (rank g b) ≡ true)
 in-extent g h b r m =
     let lo = rank g (startOf h) in

@@ -2,7 +2,8 @@
 //
 // Each field is read once and each rule decided once, in the order of the table: where a row is reached, the rows above it hold. "A part of a rule that
 // reads another field is not applied while that field is itself at fault" so matters only where a field reads a higher one: 23 reads 40, 54 and 58 read 63.
-// The verdicts of 40 and 63 are made before those fields are judged, and handed on. All functions serve the layers above (inner).
+// The verdicts of 40 and 63 are made before those fields are judged, and handed on. (6, 23 and 40 read 44 too, but where 44 is at fault no level's test holds.)
+// All functions serve the layers above (inner).
 use checks::Seen;
 use checks::block_in;
 use checks::blocked_right;

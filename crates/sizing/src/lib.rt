@@ -19,7 +19,7 @@ pub struct Level {
     pub blocks: u64,
 }
 
-// a length as a number of 64 bits
+// A length as a number of 64 bits.
 fn wide(n: u32) -> u64
     ensures { λ r. ⌜ (r ≡ n) × (r < 4294967296) ⌝ }
 {

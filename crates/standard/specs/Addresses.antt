@@ -40,7 +40,8 @@ before g a b = ltb (rank g a) (rank g b)
 abbrev pub addressCount : Geometry → ℕ
 addressCount g = g .L * g .S * g .D
 
--- "The first data address and the step onward belong to the address itself."
+-- "The first data address and the step onward belong to the address itself." (Behind cylinder L+1 there is no cylinder: its last address stays, so that there is
+-- a step from every address. Only the first of L+1 is ever met.)
 abbrev pub firstAddress : Address
 firstAddress = record { cylinder = 1; side = 0; sector = 1 }
 

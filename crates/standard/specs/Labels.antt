@@ -74,8 +74,8 @@ isBlocked h = eqb (at h 63) (byte "B")
 abbrev pub dataEndOf : List ℕ → Address
 dataEndOf h = addressIn (field h 75 79)
 
--- The rules, in the order of the document but for those that an earlier field reads: 44 stands before all, 40 before 23, 63 before 54. A field is at fault
--- where its rule does not hold.
+-- The rules, in the order of the document but for what a rule reads of other fields, which stands before it: 44 first of all, 23 behind 40, 63 before 54 and
+-- 58. A field is at fault where its rule does not hold.
 
 -- a part of a rule that applies only where something is so
 abbrev pub if-so : Bool → Bool → Bool

@@ -16,7 +16,8 @@ pub mod Places
 pub mod Records
 pub mod Damage
 pub mod Packing
--- Refusal numbers: rules in order, the volume (1 to 12), finding (13), reading (13 to 23), writing (24 to 27), free records
+-- Refusal numbers: rules in order, the volume (1 to 12), finding (13), reading (19, 23 and the order of 13 to 23; 13 to 18 stand in Files, 20 to 22 in Records),
+-- writing (24 to 27), free records
 pub mod Refusals
 pub mod Judgement
 pub mod Finding

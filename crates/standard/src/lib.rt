@@ -87,6 +87,7 @@ impl Address {
         sector: 1,
     };
 
+    // The constant by a function, which can say that it is the definition's value.
     pub fn first() -> Address
         ensures { λ r. ⌜ r ≡ firstAddress ⌝ }
     {
@@ -166,6 +167,7 @@ impl Place {
         mark: false,
     };
 
+    // The constant by a function, as for the address.
     pub fn start() -> Place
         ensures { λ r. ⌜ r ≡ start ⌝ }
     {
@@ -214,7 +216,7 @@ impl Place {
     }
 }
 
-// The small change of every layer above. A byte as a number.
+// What every layer above needs in small. A byte as a number.
 pub fn wide(b: u8) -> u64
     ensures { λ r. ⌜ (r ≡ b) × (r < 256) ⌝ }
 {

@@ -1,5 +1,6 @@
 // Text into a lent buffer. Each function puts its text from an index on, as far as there is room, and answers the index behind it: so texts are put one after
-// another with no test between them, and the last answer is the length of the whole. All serve the layers above: an index stays below 2^32.
+// another with no test between them, and the last answer is the length of the whole. All serve the layers above: a text begins at an
+// index below 2^32 (a byte of it may stand somewhat behind that).
 ghost use mathlib.Core.Path.{_≡_};
 ghost use mathlib.Core.List.{[], _∷_};
 ghost use Prim.Native.Nat.{_+_, _<_, _≤_};
@@ -31,7 +32,7 @@ pub fn put_bytes(out: &mut [u8], at: usize, text: &[u8]) -> usize
     next
 }
 
-// n without so many of its last digits
+// A number without so many of its last digits.
 fn without(digits: u64, n: u64) -> u64
     ensures { λ r. ⌜ r ≡ without digits n ⌝ }
 {
@@ -44,7 +45,7 @@ fn without(digits: u64, n: u64) -> u64
     m
 }
 
-// the last digit of a number, as a character
+// The last digit of a number, as a character.
 fn last_digit(n: u64) -> u8
     ensures { λ r. ⌜ r ≡ digitOf n ⌝ }
 {
@@ -65,7 +66,7 @@ pub fn put_padded(out: &mut [u8], at: usize, width: u64, n: u64) -> usize
     next
 }
 
-// how many digits a number has
+// How many digits a number has.
 fn width_of(n: u64) -> u64
     ensures { λ r. ⌜ (r ≡ length (shown n)) × (r ≤ 20) ⌝ }
 {

@@ -141,7 +141,8 @@ pub fn judge(image: &[u8]) -> Judged
     judge_vol1(image)
 }
 
-// What stops a file call: "A file call stops at the first refusal of the volume." (Inner: for every file call.)
+// What stops a file call: "A file call stops at the first refusal of the volume." (Inner: every file call asks it, of a
+// refused volume alone. There is no refusal 0: it stands for an accepted one.)
 pub fn refusal_of(j: Judged) -> Refusal
     ensures { λ r. ⌜ r ≡ refusalOf j ⌝ }
 {
@@ -260,13 +261,14 @@ fn nothing(image: &[u8]) -> &[u8]
     &image[0..0]
 }
 
-// The free records: all data addresses less those of the labels' extents, which share none.
+// A rank as a number of 64 bits.
 fn wide32(n: u32) -> u64
     ensures { λ r. ⌜ (r ≡ n) × (r < 4294967296) ⌝ }
 {
     n as u64
 }
 
+// The number of records in a slot's extent: 0 where it has no label, as that extent ends before it starts.
 fn size_in(g: Geometry, image: &[u8], slot: u64) -> u64
     requires { ⌜ Slotted g (now image) × (1 ≤ slot) × (slot ≤ slotCount g) ⌝ }
     ensures { λ r. ⌜ (r ≡ cond (isLabel g (now (image .entry)) slot) (extentSize g (labelAt g (now (image .entry)) slot)) 0) × (r < 4294967297) ⌝ }
@@ -275,6 +277,7 @@ fn size_in(g: Geometry, image: &[u8], slot: u64) -> u64
     minus(wide32(x.end) + 1, wide32(x.start))
 }
 
+// The records of all extents: no two share one, so that the sizes are summed up.
 fn used(g: Geometry, image: &[u8]) -> u64
     requires { ⌜ Slotted g (now image) ⌝ }
     ensures { λ r. ⌜ r ≡ extentsBelow g (now (image .entry)) (slotCount g) ⌝ }
@@ -289,7 +292,7 @@ fn used(g: Geometry, image: &[u8]) -> u64
     total
 }
 
-// (For layers above, on an accepted volume.)
+// The free records: all data addresses less those of the labels' extents. (For layers above, on an accepted volume.)
 pub fn free_in(g: Geometry, image: &[u8]) -> u64
     requires { ⌜ judged (now image) ≡ Judged.Volume g ⌝ }
     ensures { λ r. ⌜ r ≡ freeRecords g (now (image .entry)) ⌝ }
