@@ -2,8 +2,8 @@
 -- states, of any function that meets the contract (Calls), whatever its code; the lines behind `=` only name its proof. `A → B`: if A then B; `A × B`: both;
 -- `A → ⊥`: not A; `Exactly A B`: each follows from the other.
 -- Assumes nothing.
-use Prim.Native.Nat.{ℕ, _≤_, _<_, _^_}
-use mathlib.Core.Path.{_≡_, refl, sym, ap, subst, _∙_}
+use Prim.Native.Nat.{ℕ, _≤_}
+use mathlib.Core.Path.{_≡_, refl, sym, ap, _∙_}
 use mathlib.Core.Bool.{true, false}
 use mathlib.Core.List.{List, []}
 use lib.ListN.{length}
@@ -24,32 +24,31 @@ use Rattle.standard.specs.declared.Refusal.{Refusal}
 use Rattle.standard.specs.declared.Judged.the-variants.{Refused, Volume}
 use Rattle.standard.specs.declared.Found.{Found}
 use Rattle.standard.specs.declared.Found.the-variants.{Unfound, At}
-use Rattle.standard.specs.declared.Counted.the-variants.{Uncounted, Count}
+use Rattle.standard.specs.declared.Counted.the-variants.{Uncounted}
 use Rattle.standard.specs.declared.Answer.the-variants.{Unanswered}
 use Rattle.standard.specs.declared.Written.the-variants.{Unwritten}
 use Rattle.promises.specs.Basics.{never}
 use Rattle.promises.specs.Refusing.{Exactly, First}
 use Rattle.promises.specs.ReadingRefused.{readList}
-use Rattle.promises.specs.Determined.{one-result-and-bytes}
 use Rattle.promises.specs.FindingLaws.{find-no-slot, label-handed-out, slot-handed-out, no-label-handed-out, no-slot-handed-out}
-use Rattle.promises.specs.PackedLaws.{judgedBack, foundBack, countedBack, answerBack, writtenBack, judge-exact, find-exact, count-exact, free-exact, read-exact, write-exact}
+use Rattle.promises.specs.PackedLaws.{judgedBack, foundBack, countedBack, answerBack, writtenBack, cappedWritten, judge-exact, find-exact, count-exact, free-exact, read-exact, write-exact}
 use Rattle.promises.specs.Demands.{volume-refused, count-refused, reading-refused, writing-refused, file-call-refused, refused-reading-stays, refused-writing-stays, finding-none, free-gives}
-use Rattle.demanded.specs.Calls.{Contract, Allows, Outcome, Meets, ByName, InSlot, Into, Asked, Given, Call, judge, find, find-slot, label-named, label-in-slot, free, count, list, write, read, contract, Export, galz-judge, galz-find, galz-count, galz-free, galz-read, galz-salvage, galz-write, callOf, numberOf, exported}
+use Rattle.demanded.specs.Calls.{Contract, Allows, Response, Meets, Call, judge, find, find-slot, label-named, label-in-slot, free, count, list, write, read, contract, Export, galz-judge, galz-find, galz-count, galz-free, galz-read, galz-salvage, galz-write, callOf, exported}
 
 -- ======== DETERMINACY
 -- "For each input a contract determines the result and every lent byte afterwards, refusals too. Show that any two results it allows are equal". One lemma over
 -- all contracts, those of `contract`, `exported` and `moved`:
 pub determined : (c : Contract) (i : c .Input) (r r′ : c .Result) (after after′ : List ℕ) → Allows c i r after → Allows c i r′ after′
     → (r ≡ r′) × (after ≡ after′)
-determined c i r r′ after after′ = one-result-and-bytes (c .result i) (c .left i) r r′ after after′
+determined c i r r′ after after′ a a′ = (a .0 ∙ sym (a′ .0), a .1 ∙ sym (a′ .1))
 
 -- so any two functions that meet a contract do the same
-pub agreeing : (c : Contract) (f f′ : c .Input → Outcome (c .Result)) → Meets c f → Meets c f′ → (i : c .Input)
+pub agreeing : (c : Contract) (f f′ : c .Input → Response (c .Result)) → Meets c f → Meets c f′ → (i : c .Input)
     → (f i .answer ≡ f′ i .answer) × (f i .after ≡ f′ i .after)
 agreeing c f f′ meets meets′ i = determined c i (f i .answer) (f′ i .answer) (f i .after) (f′ i .after) (meets i) (meets′ i)
 
 -- and one function answers two inputs alike for which its contract has one answer
-pub alike : (c : Contract) (f : c .Input → Outcome (c .Result)) → Meets c f → (i i′ : c .Input) → c .result i ≡ c .result i′ → f i .answer ≡ f i′ .answer
+pub alike : (c : Contract) (f : c .Input → Response (c .Result)) → Meets c f → (i i′ : c .Input) → c .result i ≡ c .result i′ → f i .answer ≡ f i′ .answer
 alike c f meets i i′ e = meets i .0 ∙ e ∙ sym (meets i′ .0)
 
 -- ======== DEMAND 1
@@ -186,23 +185,29 @@ back galz-read = answerBack
 back galz-salvage = answerBack
 back galz-write = writtenBack
 
--- "A first place above 2^32-1 is given as 2^32-1": the one case in which the number does not carry a refusal whole, of lists that fit in no machine
-abbrev pub Carries : (e : Export) → contract (callOf e) .Input → Type 0
-Carries galz-judge i = Unit {0}
-Carries galz-find i = Unit {0}
-Carries galz-count i = Unit {0}
-Carries galz-free i = Unit {0}
-Carries galz-read i = Unit {0}
-Carries galz-salvage i = Unit {0}
-Carries galz-write i = (x : Refusal) → written (i .image) (i .slot) (i .bodies) (i .lengths) ≡ Unwritten x → x .first < 2 ^ 32
+-- "A first place above 2^32-1 is given as 2^32-1": the one case in which the number does not carry an answer whole, in writing lists that fit in no machine
+abbrev pub carried : (e : Export) → contract (callOf e) .Result → contract (callOf e) .Result
+carried galz-judge r = r
+carried galz-find r = r
+carried galz-count r = r
+carried galz-free r = r
+carried galz-read r = r
+carried galz-salvage r = r
+carried galz-write r = cappedWritten r
 
--- The number taken apart is an outcome that the call behind the export allows: all that is said of the calls, here and in Judging, Reading and Writing, holds of it.
-pub number-carries : (e : Export) (i : contract (callOf e) .Input) (n : ℕ) (after : List ℕ) → Carries e i → Allows (exported e) i n after
-    → Allows (contract (callOf e)) i (back e n) after
-number-carries galz-judge i n after low a = (ap judgedBack (a .0) ∙ judge-exact i, a .1)
-number-carries galz-find i n after low a = (ap foundBack (a .0) ∙ find-exact (i .image) (i .name), a .1)
-number-carries galz-count i n after low a = (ap countedBack (a .0) ∙ count-exact (i .image) (i .slot), a .1)
-number-carries galz-free i n after low a = (ap countedBack (a .0) ∙ free-exact i, a .1)
-number-carries galz-read i n after low a = (ap answerBack (a .0) ∙ read-exact (i .image) plain (i .slot) (i .place) (i .out), a .1)
-number-carries galz-salvage i n after low a = (ap answerBack (a .0) ∙ read-exact (i .image) salvage (i .slot) (i .place) (i .out), a .1)
-number-carries galz-write i n after low a = (ap writtenBack (a .0) ∙ write-exact (i .image) (i .slot) (i .bodies) (i .lengths) low, a .1)
+-- The number taken apart is the answer of the call behind the export, and the lent bytes are as that call leaves them: all that is said of the calls, here and in
+-- Judging, Reading and Writing, holds of it.
+pub number-carries : (e : Export) (i : contract (callOf e) .Input) (n : ℕ) (after : List ℕ) → Allows (exported e) i n after
+    → (back e n ≡ carried e (contract (callOf e) .result i)) × (after ≡ contract (callOf e) .left i)
+number-carries galz-judge i n after a = (ap judgedBack (a .0) ∙ judge-exact i, a .1)
+number-carries galz-find i n after a = (ap foundBack (a .0) ∙ find-exact (i .image) (i .name), a .1)
+number-carries galz-count i n after a = (ap countedBack (a .0) ∙ count-exact (i .image) (i .slot), a .1)
+number-carries galz-free i n after a = (ap countedBack (a .0) ∙ free-exact i, a .1)
+number-carries galz-read i n after a = (ap answerBack (a .0) ∙ read-exact (i .image) plain (i .slot) (i .place) (i .out), a .1)
+number-carries galz-salvage i n after a = (ap answerBack (a .0) ∙ read-exact (i .image) salvage (i .slot) (i .place) (i .out), a .1)
+number-carries galz-write i n after a = (ap writtenBack (a .0) ∙ write-exact (i .image) (i .slot) (i .bodies) (i .lengths), a .1)
+
+-- and where that call refuses, all lent bytes stay
+pub refused-number-leaves : (e : Export) (i : contract (callOf e) .Input) (n : ℕ) (after : List ℕ) (x : Refusal) → Allows (exported e) i n after
+    → Refuses (callOf e) (contract (callOf e) .result i) x → after ≡ contract (callOf e) .lent i
+refused-number-leaves e i n after x a = refusal-leaves (callOf e) i (contract (callOf e) .result i) after x (refl, a .1)

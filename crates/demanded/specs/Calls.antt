@@ -19,11 +19,7 @@ use Rattle.standard.specs.Places.{start, behindAt, nextBlock, afterGap}
 use Rattle.standard.specs.Packed.{packedJudged, packedFound, packedCounted, packedAnswer, packedWritten}
 use Rattle.standard.specs.declared.Geometry.{Geometry}
 use Rattle.standard.specs.declared.Address.{Address}
-use Rattle.standard.specs.declared.FiveDigits.{FiveDigits}
 use Rattle.standard.specs.declared.Place.{Place}
-use Rattle.standard.specs.declared.Judged.{Judged}
-use Rattle.standard.specs.declared.Found.{Found}
-use Rattle.standard.specs.declared.Counted.{Counted}
 use Rattle.standard.specs.declared.Answer.{Answer}
 use Rattle.standard.specs.declared.Written.{Written}
 use Rattle.text.specs.Laid.{laid}
@@ -44,11 +40,11 @@ Allows c i r after = (r ≡ c .result i) × (after ≡ c .left i)
 -- WHAT A FUNCTION DOES, as its caller sees it: for each input there is then a result, and the lent bytes as they are left. It MEETS a contract that allows
 -- this of every input. (A function of the code takes bytes and numbers of 64 bits. Of other lists and numbers, which nobody can lend it and which it never
 -- hands out, it may be thought to answer as the definitions do: so it is a function here, and what is said of one holds of it.)
-pub record Outcome (R : Type 0) : Type 0 where
+pub record Response (R : Type 0) : Type 0 where
   pub answer : R
   pub after : List ℕ
 
-abbrev pub Meets : (c : Contract) → (c .Input → Outcome (c .Result)) → Type 0
+abbrev pub Meets : (c : Contract) → (c .Input → Response (c .Result)) → Type 0
 Meets c f = (i : c .Input) → Allows c i (f i .answer) (f i .after)
 
 -- WHAT IS ASKED

@@ -14,7 +14,7 @@ use Rattle.standard.specs.Addresses.{ordinal, addressCount, legal, rank}
 use Rattle.standard.specs.Labels.{knownLevel, nameOf}
 use Rattle.standard.specs.Slots.{hasLabel, isLabel}
 use Rattle.standard.specs.Judgement.{judged}
-use Rattle.standard.specs.Finding.{found, foundAt}
+use Rattle.standard.specs.Finding.{found}
 use Rattle.standard.specs.Free.{freeRecords, inExtent}
 use Rattle.standard.specs.Files.{extent, blockCount, countOr, countRefusal, counted}
 use Rattle.standard.specs.Writing.{imageAfter}
@@ -31,24 +31,27 @@ use Rattle.standard.specs.declared.Counted.{Counted}
 use Rattle.standard.specs.declared.Counted.the-variants.{Uncounted, Count}
 use Rattle.promises.specs.Basics.{never}
 use Rattle.promises.specs.Refusing.{Exactly}
-use Rattle.promises.specs.VolumeNumbers.{Numbers, numbers-of}
+use Rattle.promises.specs.VolumeNumbers.{Numbers, numbers-of, image-range}
 use Rattle.promises.specs.VolumePromises.{RecordInRange}
 use Rattle.promises.specs.FindingLaws.{find-slot as found-in-slot, slot-handed-out}
 use Rattle.promises.specs.FreeLaws.{extentsBelow}
 use Rattle.promises.specs.Sectors.{AgreeOn, sectorOf}
 use Rattle.promises.specs.Demands.{extents-in-range, sharing-no-record, extent-is, finding-gives, label-given, free-gives, locality, write-counts}
 use Rattle.promises.specs.Instances.{demo, demoVolume, demoBodies, demoLengths, demo-accepted}
-use Rattle.demanded.specs.Calls.{Outcome, Meets, ByName, InSlot, named, inSlot, judge, find, find-slot, label-named, label-in-slot, free, count, contract}
+use Rattle.demanded.specs.Calls.{Response, Meets, ByName, InSlot, named, inSlot, judge, find, find-slot, label-named, label-in-slot, free, count, contract}
 
 -- ======== JUDGING
-module _ (judger : List ℕ → Outcome Judged) (judges : Meets (contract judge) judger) where
+module _ (judger : List ℕ → Response Judged) (judges : Meets (contract judge) judger) where
   module _ (image : List ℕ) (g : Geometry) (accepts : judger image .answer ≡ Volume g) where
     pub accepted : judged image ≡ Volume g
     accepted = sym (judges image .0) ∙ accepts
 
-    -- L, I, D, P and S are those that VOL1 may have
+    -- L, I, D, P and S are those that VOL1 may have, and the image is "from 1,548 to 5,283,408" bytes long
     pub numbers-in-range : Numbers g
     numbers-in-range = numbers-of image g accepted
+
+    pub length-in-range : (1548 ≤ length image) × (length image ≤ 5283408)
+    length-in-range = image-range image g accepted
 
     -- "extents in range": the address of every record of an extent is one of the volume, its sector behind the index cylinder and on no defective one, its
     -- bytes inside the image; and an extent has exactly the addresses from its start to its end
@@ -69,7 +72,7 @@ module _ (judger : List ℕ → Outcome Judged) (judges : Meets (contract judge)
   no-refusing-judge x h = let e = sym (demo-accepted .1) ∙ (sym (judges demo .0) ∙ h) in never (cc)
 
 -- ======== FINDING
-module _ (finder : ByName → Outcome Found) (finds : Meets (contract find) finder) where
+module _ (finder : ByName → Response Found) (finds : Meets (contract find) finder) where
   -- "Names are 17 bytes, found among levels space, 1, 2 only"
   pub finds-exactly : (image name : List ℕ) (g : Geometry) (slot offset : ℕ) → judged image ≡ Volume g
       → Exactly (finder (named image name) .answer ≡ At slot offset)
@@ -81,7 +84,7 @@ module _ (finder : ByName → Outcome Found) (finds : Meets (contract find) find
       ((λ h. e .0 (sym is ∙ h)), (λ f. is ∙ e .1 f))
 
   -- "A file's label is handed out as the 128 bytes in the image itself": the bytes from the offset on that is found
-  pub hands-out-named : (labeler : ByName → Outcome (List ℕ)) → Meets (contract label-named) labeler → (image name : List ℕ) (g : Geometry) (slot offset : ℕ)
+  pub hands-out-named : (labeler : ByName → Response (List ℕ)) → Meets (contract label-named) labeler → (image name : List ℕ) (g : Geometry) (slot offset : ℕ)
       → judged image ≡ Volume g → finder (named image name) .answer ≡ At slot offset
       → (labeler (named image name) .answer ≡ take 128 (drop offset image)) × (length (labeler (named image name) .answer) ≡ 128)
   hands-out-named labeler labels image name g slot offset j h =
@@ -97,7 +100,7 @@ module _ (finder : ByName → Outcome Found) (finds : Meets (contract find) find
       let e = sym f ∙ h in
       never (cc)
 
-module _ (finder : InSlot → Outcome Found) (finds : Meets (contract find-slot) finder) where
+module _ (finder : InSlot → Response Found) (finds : Meets (contract find-slot) finder) where
   pub finds-slot-exactly : (image : List ℕ) (g : Geometry) (slot s offset : ℕ) → judged image ≡ Volume g
       → Exactly (finder (inSlot image slot) .answer ≡ At s offset) ((hasLabel g image slot ≡ true) × (s ≡ slot) × (offset ≡ labelOffset g slot))
   finds-slot-exactly image g slot s offset j =
@@ -105,7 +108,7 @@ module _ (finder : InSlot → Outcome Found) (finds : Meets (contract find-slot)
       let is = finds (inSlot image slot) .0 in
       ((λ h. e .0 (sym is ∙ h)), (λ f. is ∙ e .1 f))
 
-  pub hands-out-in-slot : (labeler : InSlot → Outcome (List ℕ)) → Meets (contract label-in-slot) labeler → (image : List ℕ) (g : Geometry) (slot s offset : ℕ)
+  pub hands-out-in-slot : (labeler : InSlot → Response (List ℕ)) → Meets (contract label-in-slot) labeler → (image : List ℕ) (g : Geometry) (slot s offset : ℕ)
       → judged image ≡ Volume g → finder (inSlot image slot) .answer ≡ At s offset
       → (labeler (inSlot image slot) .answer ≡ take 128 (drop offset image)) × (length (labeler (inSlot image slot) .answer) ≡ 128)
   hands-out-in-slot labeler labels image g slot s offset j h =
@@ -118,7 +121,7 @@ counted-exactly : (c : Checked) (blocks n : ℕ) → Exactly (countOr c blocks �
 counted-exactly Passed blocks n = ((λ h. (refl, cc)), (λ p. ap Count (sym (p .1))))
 counted-exactly (Stopped r) blocks n = ((λ h. never (cc)), (λ p. never (let e = p .0 in cc)))
 
-module _ (counter : InSlot → Outcome Counted) (counts : Meets (contract count) counter) where
+module _ (counter : InSlot → Response Counted) (counts : Meets (contract count) counter) where
   -- "The number of blocks is 0 if data end = start; .." (`blockCount`), where the count is not refused
   pub counts-exactly : (image : List ℕ) (g : Geometry) (slot n : ℕ) → judged image ≡ Volume g
       → Exactly (counter (inSlot image slot) .answer ≡ Count n) ((countRefusal g image slot ≡ Passed) × (n ≡ blockCount g image (labelAt g image slot)))
@@ -129,7 +132,8 @@ module _ (counter : InSlot → Outcome Counted) (counts : Meets (contract count)
       counts (inSlot image slot) .0 ∙ rw j in
       ((λ h. e .0 (sym is ∙ h)), (λ p. is ∙ e .1 p))
 
-  -- "Two accepted images equal in the index cylinder and in one file's extent give equal answers": the count too
+  -- "Two accepted images equal in the index cylinder and in one file's extent give equal answers": the count too. `AgreeOn g set`: the images have the same
+  -- bytes in every sector of the set; `sectorOf g addresses`: the set of the sectors that have these addresses
   pub counts-locally : (image image′ : List ℕ) (g g′ : Geometry) (slot : ℕ) → judged image ≡ Volume g → judged image′ ≡ Volume g′
       → take (indexSectors g * 129) image ≡ take (indexSectors g * 129) image′
       → AgreeOn g (sectorOf g (extent g (labelAt g image slot))) image image′
@@ -150,8 +154,8 @@ module _ (counter : InSlot → Outcome Counted) (counts : Meets (contract count)
       never (cc)
 
 -- ======== FREE RECORDS
-module _ (counter : List ℕ → Outcome Counted) (counts : Meets (contract free) counter) where
-  -- all data addresses less the sizes of the labels' extents
+module _ (counter : List ℕ → Response Counted) (counts : Meets (contract free) counter) where
+  -- all data addresses less the sizes of the labels' extents (`extentsBelow g image n`: of the labels in the slots 1 to n, in all)
   pub counts-free : (image : List ℕ) (g : Geometry) → judged image ≡ Volume g
       → (counter image .answer ≡ Count (freeRecords g image)) × (freeRecords g image + extentsBelow g image (slotCount g) ≡ addressCount g)
   counts-free image g j = let f = free-gives image g j in (counts image .0 ∙ f .0, f .1)

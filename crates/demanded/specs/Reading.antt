@@ -12,8 +12,9 @@ use Rattle.standard.specs.Characters.{bytes}
 use Rattle.standard.specs.Layout.{indexSectors, labelAt}
 use Rattle.standard.specs.Judgement.{judged}
 use Rattle.standard.specs.Files.{extent, blockCount, openRefusal, fileIn}
-use Rattle.standard.specs.Records.{Mode, plain, salvage, Record, rec, end, listed, inFile}
+use Rattle.standard.specs.Records.{Mode, plain, salvage, Record, File, rec, end, listed, inFile}
 use Rattle.standard.specs.Places.{start, endPlace}
+use Rattle.standard.specs.Damage.{recordsIn, gapsIn, sparedOf, goneOf}
 use Rattle.standard.specs.Pieces.{ahead}
 use Rattle.standard.specs.Reading.{readAnswer, outputAfter}
 use Rattle.standard.specs.declared.Geometry.{Geometry}
@@ -26,7 +27,7 @@ use Rattle.standard.specs.declared.Judged.the-variants.{Volume}
 use Rattle.promises.specs.Basics.{never}
 use Rattle.promises.specs.ReadingRefused.{LostIn}
 use Rattle.promises.specs.ReadingLaws.{bodyOf}
-use Rattle.promises.specs.Following.{Heard, told, hole, done, refused, onward, following, heard, heardIn, Fits}
+use Rattle.promises.specs.Following.{Heard, told, gapAt, done, refused, onward, following, heard, heardIn, Fits}
 use Rattle.promises.specs.AnyPlace.{listedFrom}
 use Rattle.promises.specs.Sectors.{AgreeOn, sectorOf}
 use Rattle.promises.specs.Failing.{Failed, Spares, ReadsWhole, gone, expected}
@@ -34,12 +35,12 @@ use Rattle.promises.specs.Failable.{failedAt}
 use Rattle.promises.specs.PlainFailed.{FirstGone, NoneGone, cutAt}
 use Rattle.promises.specs.Runs.{AfterDropped}
 use Rattle.promises.specs.Demands.{gap-stays, end-stays, record-stays, reading-gives, reading-gives-from, record-leads, gap-leads, end-leads, salvage-gives, plain-gives, never-joined, joined-rightly, locality}
-use Rattle.demanded.specs.Calls.{Outcome, Meets, Asked, ask, read, contract}
 use Rattle.promises.specs.Instances.{image, output, geometry, computed}
+use Rattle.demanded.specs.Calls.{Response, Meets, Asked, ask, read, contract}
 
 -- A FUNCTION THAT READS, and that it meets the contract, of plain reading or of salvage
 abbrev pub Reader : Type 0
-Reader = Asked → Outcome Answer
+Reader = Asked → Response Answer
 
 abbrev pub Reads : Mode → Reader → Type 0
 Reads m r = Meets (contract (read m)) r
@@ -71,43 +72,50 @@ followed-is m r meets (suc n) image slot out pl =
 module _ (m : Mode) (r : Reader) (meets : Reads m r) where
   -- ======== ONE READING
   module _ (image : List ℕ) (slot : ℕ) (pl : Place) (out : List ℕ) where
-    agreed : (a : Answer) → r (ask image slot pl out) .answer ≡ a → readAnswer m image slot pl out ≡ a
+    abbrev given : Response Answer
+    given = r (ask image slot pl out)
+
+    agreed : (a : Answer) → given .answer ≡ a → readAnswer m image slot pl out ≡ a
     agreed a h = sym (meets (ask image slot pl out) .0) ∙ h
 
     -- "Bytes behind a record in the output stay too; gap and End change none."
-    pub gap-leaves : (next : Place) → r (ask image slot pl out) .answer ≡ Gap next → r (ask image slot pl out) .after ≡ out
+    pub gap-leaves : (next : Place) → given .answer ≡ Gap next → given .after ≡ out
     gap-leaves next h = meets (ask image slot pl out) .1 ∙ gap-stays m image slot pl out next (agreed (Gap next) h)
 
-    pub end-leaves : (next : Place) → r (ask image slot pl out) .answer ≡ End next → r (ask image slot pl out) .after ≡ out
+    pub end-leaves : (next : Place) → given .answer ≡ End next → given .after ≡ out
     end-leaves next h = meets (ask image slot pl out) .1 ∙ end-stays m image slot pl out next (agreed (End next) h)
 
-    pub record-leaves : (k : ℕ) (next : Place) → r (ask image slot pl out) .answer ≡ RecordOf k next
-        → (k ≤ length out) × (drop k (r (ask image slot pl out) .after) ≡ drop k out) × (length (r (ask image slot pl out) .after) ≡ length out)
+    pub record-leaves : (k : ℕ) (next : Place) → given .answer ≡ RecordOf k next
+        → (k ≤ length out) × (drop k (given .after) ≡ drop k out) × (length (given .after) ≡ length out)
     record-leaves k next h = rw (meets (ask image slot pl out) .1) (record-stays m image slot pl out k next (agreed (RecordOf k next) h))
 
-    -- every place handed out is in the file; a gap's is behind a lost block; End's is (count, 0)
+    -- every place handed out is in the file; a gap's is behind a lost block (`LostIn file b`: block b is lost); End's is (count, 0)
     module _ (g : Geometry) (accepted : judged image ≡ Volume g) (next : Place) where
-      pub record-hands-out : (k : ℕ) → r (ask image slot pl out) .answer ≡ RecordOf k next → inFile (fileIn g image (labelAt g image slot)) next ≡ true
+      abbrev file : File
+      file = fileIn g image (labelAt g image slot)
+
+      pub record-hands-out : (k : ℕ) → given .answer ≡ RecordOf k next → inFile file next ≡ true
       record-hands-out k h = record-leads image g accepted m slot pl out next k (agreed (RecordOf k next) h)
 
-      pub gap-hands-out : r (ask image slot pl out) .answer ≡ Gap next
-          → (inFile (fileIn g image (labelAt g image slot)) next ≡ true)
-          × (b : ℕ) × LostIn (fileIn g image (labelAt g image slot)) b × (next ≡ record { block = suc b; offset = 0; mark = true })
+      pub gap-hands-out : given .answer ≡ Gap next
+          → (inFile file next ≡ true)
+          × (b : ℕ) × LostIn file b × (next ≡ record { block = suc b; offset = 0; mark = true })
       gap-hands-out h = gap-leads image g accepted m slot pl out next (agreed (Gap next) h)
 
-      pub end-hands-out : r (ask image slot pl out) .answer ≡ End next
-          → (inFile (fileIn g image (labelAt g image slot)) next ≡ true) × (next ≡ endPlace (blockCount g image (labelAt g image slot)))
+      pub end-hands-out : given .answer ≡ End next
+          → (inFile file next ≡ true) × (next ≡ endPlace (blockCount g image (labelAt g image slot)))
       end-hands-out h = end-leads image g accepted m slot pl out next (agreed (End next) h)
 
       -- "No record is ever joined out of two others": its bytes are those of one piece `0`, or of pieces `1`, `2`.., `3` one behind the other, with no lost
-      -- block between
-      pub joins-rightly : (k : ℕ) → r (ask image slot pl out) .answer ≡ RecordOf k next
-          → (q : Record) × (take k (r (ask image slot pl out) .after) ≡ q .body)
-          × AfterDropped (ahead (fileIn g image (labelAt g image slot) .params) (fileIn g image (labelAt g image slot) .blocks) (pl .block) (pl .offset)) q next
+      -- block between, behind what is dropped after a gap (`AfterDropped`, in Runs)
+      pub joins-rightly : (k : ℕ) → given .answer ≡ RecordOf k next
+          → (q : Record) × (take k (given .after) ≡ q .body)
+          × AfterDropped (ahead (file .params) (file .blocks) (pl .block) (pl .offset)) q next
       joins-rightly k h = rw (meets (ask image slot pl out) .1) (joined-rightly image g accepted m slot pl out k next (agreed (RecordOf k next) h))
 
   -- ======== DEMAND 2
-  -- "reading gives exactly the records the standard puts there"; "Any place in the file may be asked"
+  -- "reading gives exactly the records the standard puts there"; "Any place in the file may be asked". `listed` is the declared list, straight from the blocks,
+  -- `listedFrom` the same from a place on; `heardIn room`: the list as it is heard with so much room in the output, up to a record that is too long, where 23 is
   module _ (image : List ℕ) (g : Geometry) (slot : ℕ) (accepted : judged image ≡ Volume g) (opens : openRefusal g image slot ≡ Passed) where
     pub gives : (n : ℕ) (out : List ℕ)
         → followed n r image slot out start ≡ heardIn (length out) (take n (listed m (fileIn g image (labelAt g image slot))))
@@ -119,6 +127,7 @@ module _ (m : Mode) (r : Reader) (meets : Reads m r) where
 
   -- ======== LOCALITY
   -- "Two accepted images equal in the index cylinder and in one file's extent give equal answers to every reading of that file."
+  -- `AgreeOn g set`: the images have the same bytes in every sector of the set; `sectorOf g addresses`: the set of the sectors that have these addresses
   pub local : (image image′ : List ℕ) (g g′ : Geometry) (slot : ℕ) → judged image ≡ Volume g → judged image′ ≡ Volume g′
       → take (indexSectors g * 129) image ≡ take (indexSectors g * 129) image′
       → AgreeOn g (sectorOf g (extent g (labelAt g image slot))) image image′
@@ -130,8 +139,24 @@ module _ (m : Mode) (r : Reader) (meets : Reads m r) where
       )
 
 -- ======== DEMAND 3
--- "After any of a readable file's sectors fail their check": `reader` reads the file whole before (these bodies and End), and the sectors that `hit` names
--- fail; "salvage gives, in order, every record no block of which is lost, one gap per lost block at its place, nothing more".
+-- "salvage gives, in order, every record no block of which is lost, one gap per lost block at its place, nothing more": what is heard of a file whose records had
+-- these bodies, in an image where sectors have failed (`hit` names them)
+pub record SalvagedAs (salvager : Reader) (g : Geometry) (hit : ℕ → Bool) (image image′ : List ℕ) (slot : ℕ) (bodies : List (List ℕ)) : Type 0 where
+  -- the file's records, each with the blocks in which it begins and ends
+  pub records : List Record
+  pub bodies-are : map bodyOf records ≡ bodies
+  -- `expected`: block by block a gap for a block that is gone, and otherwise the spared records that end in it; then End. `heardIn`: the list as it is heard with
+  -- so much room in the output, which is the list itself up to a record that is too long, where 23 is heard
+  pub is-heard : (n : ℕ) (out : List ℕ)
+      → followed n salvager image′ slot out start ≡ heardIn (length out) (take n (expected g hit image (labelAt g image slot) records))
+  -- its records are all that no gone block touches, in order; its gaps one for each block that is gone
+  pub records-are : recordsIn (expected g hit image (labelAt g image slot) records) ≡ sparedOf (gone g hit image (labelAt g image slot)) records
+  pub gaps-are : gapsIn (expected g hit image (labelAt g image slot) records)
+      ≡ goneOf (gone g hit image (labelAt g image slot)) 0 (blockCount g image (labelAt g image slot))
+
+-- "After any of a readable file's sectors fail their check": `reader` reads the file whole before (these bodies and End), and the sectors that `hit` names fail
+-- (`Failed`: the other sectors have the same bytes, those have the kind of a failed check and any bytes behind it). `Spares`: any sector may fail but those of
+-- the index cylinder and those of defective records of this file's extent.
 module _ (reader salvager : Reader) (reads : Reads plain reader) (salvages : Reads salvage salvager)
     (image image′ : List ℕ) (g : Geometry) (slot : ℕ) (bodies : List (List ℕ)) (hit : ℕ → Bool) (accepted : judged image ≡ Volume g)
     (readings : ℕ) (lent : List ℕ) (readable : followed readings reader image slot lent start ≡ map told bodies ++ (done ∷ []))
@@ -139,14 +164,19 @@ module _ (reader salvager : Reader) (reads : Reads plain reader) (salvages : Rea
   whole : ReadsWhole image slot bodies
   whole = record { readings = readings; out = lent; hears = sym (followed-is plain reader reads readings image slot lent start) ∙ readable }
 
-  pub salvager-gives : (rs : List Record) × (map bodyOf rs ≡ bodies)
-      × ((n : ℕ) (out : List ℕ) → followed n salvager image′ slot out start ≡ heardIn (length out) (take n (expected g hit image (labelAt g image slot) rs)))
+  pub salvager-gives : SalvagedAs salvager g hit image image′ slot bodies
   salvager-gives =
       let s = salvage-gives image image′ g slot bodies hit accepted whole fail spares in
-      (s .0, s .1, (λ n out. followed-is salvage salvager salvages n image′ slot out start ∙ s .3 n out))
+      record {
+        records = s .0;
+        bodies-are = s .1;
+        is-heard = λ n out. followed-is salvage salvager salvages n image′ slot out start ∙ s .3 n out;
+        records-are = sym (ap recordsIn (s .2 .list)) ∙ s .2 .list-records;
+        gaps-are = sym (ap gapsIn (s .2 .list)) ∙ s .2 .list-gaps;
+      }
 
   -- and the plain reader gives the records that end before the first lost block, and then 20 naming it; or, if no block is lost, all records and End. (The
-  -- output has room for every record.)
+  -- output has room for every record: `Fits`. `FirstGone`, `NoneGone`: the first block that is gone; none is. `cutAt b`: the records that end before block b, and 20.)
   pub reader-gives : (rs : List Record) × (map bodyOf rs ≡ bodies)
       × ((b : ℕ) → FirstGone (gone g hit image (labelAt g image slot)) (blockCount g image (labelAt g image slot)) b → (n : ℕ) (out : List ℕ)
       → Fits (length out) (map rec rs) → followed n reader image′ slot out start ≡ take n (map heard (cutAt b rs)))
@@ -175,7 +205,7 @@ pub reader-heard : (r : Reader) → Reads plain r
 reader-heard r meets = followed-is plain r meets 4 image 1 output start ∙ computed .1
 
 pub salvager-heard : (r : Reader) → Reads salvage r
-    → followed 4 r (failedAt geometry 9 image) 1 output start ≡ told (bytes "AAAAAAAA") ∷ hole 1 ∷ told (bytes "CCC") ∷ done ∷ []
+    → followed 4 r (failedAt geometry 9 image) 1 output start ≡ told (bytes "AAAAAAAA") ∷ gapAt 1 ∷ told (bytes "CCC") ∷ done ∷ []
 salvager-heard r meets = followed-is salvage r meets 4 (failedAt geometry 9 image) 1 output start ∙ computed .2
 
 refused-at-once : (r : Reader) (image : List ℕ) (x : Refusal) → r (ask image 1 start output) .answer ≡ Unanswered x

@@ -5,7 +5,7 @@
 -- Assumes nothing.
 use Prim.Native.Nat.{ℕ, zero, suc, _+_, _-_, _*_, _<_, _≤_}
 use mathlib.Core.Path.{_≡_, refl, sym, ap, subst, _∙_}
-use mathlib.Core.Bool.{true, false}
+use mathlib.Core.Bool.{Bool, true, false}
 use mathlib.Core.Logic.{_⊎_, inl, inr}
 use mathlib.Core.List.{List, [], _∷_, _++_, map}
 use lib.ListN.{length, getD, replicate, take}
@@ -19,7 +19,7 @@ use Rattle.standard.specs.Judgement.{judged}
 use Rattle.standard.specs.Finding.{found, foundAt}
 use Rattle.standard.specs.Free.{freeCount}
 use Rattle.standard.specs.Files.{addressesFrom, isDefective, goodRecords, recordsToBlock, blocksHeld, counted}
-use Rattle.standard.specs.Records.{Mode, plain}
+use Rattle.standard.specs.Records.{Mode, plain, salvage}
 use Rattle.standard.specs.Places.{start}
 use Rattle.standard.specs.Reading.{readAnswer, outputAfter}
 use Rattle.standard.specs.Writing.{parted, needed, packing, writeList, writeRefusal, unusedField, nextDataEnd, dataEndAfter, written, imageAfter}
@@ -37,26 +37,27 @@ use Rattle.standard.specs.declared.Written.{Written}
 use Rattle.standard.specs.declared.Written.the-variants.{Unwritten, Blocks}
 use Rattle.promises.specs.Basics.{never, either, eq-or-not}
 use Rattle.promises.specs.AddressLaws.{parts, step-rank}
-use Rattle.promises.specs.AcceptedLaws.{InRange}
+use Rattle.promises.specs.AcceptedLaws.{InRange, has-slot}
 use Rattle.promises.specs.ReadBack.{enough-records}
-use Rattle.promises.specs.AcceptedWrite.{label-range, after-is}
+use Rattle.promises.specs.AcceptedWrite.{passing, label-range, after-is}
 use Rattle.promises.specs.WrittenLabel.{records-some, new-end}
 use Rattle.promises.specs.WriteEnds.{end-of-none, end-of-some, end-of-all, end-behind}
-use Rattle.promises.specs.WritingPromises.{joined, answers, labels-stay}
-use Rattle.promises.specs.WrittenHeard.{RoomFor, toldIn, written-heard-in}
+use Rattle.promises.specs.WritingPromises.{joined, answers, labels-stay, needing-again}
+use Rattle.promises.specs.WrittenHeard.{RoomFor, toldIn, written-heard-in, written-whole}
 use Rattle.promises.specs.ByteSectors.{MayChange}
-use Rattle.promises.specs.Refusing.{Exactly, First, order-first, first-order, accepted-write}
+use Rattle.promises.specs.Refusing.{Exactly, order-first, first-order, accepted-write}
 use Rattle.promises.specs.Following.{told, done, following}
+use Rattle.promises.specs.Failing.{Failed, Spares}
 use Rattle.promises.specs.Demands.{write-list, write-counts, write-reads-back, write-changes-no-more, write-sets, write-stays-accepted, others-stay, finding-stays}
 use Rattle.promises.specs.Instances.{demo, demoVolume, demoBodies, demoLengths, demo-accepted, demo-heard}
-use Rattle.demanded.specs.Calls.{Outcome, Meets, ByName, InSlot, Given, named, inSlot, ask, give, judge, find, find-slot, free, count, read, write, contract}
+use Rattle.demanded.specs.Calls.{Response, Meets, ByName, InSlot, Given, named, inSlot, ask, give, judge, find, find-slot, free, count, read, write, contract}
 use Rattle.demanded.specs.Called.{alike, answered, refuses-exactly}
-use Rattle.demanded.specs.Reading.{Reader, Reads, followed, followed-is}
+use Rattle.demanded.specs.Reading.{Reader, Reads, followed, followed-is, SalvagedAs, salvager-gives}
 use Rattle.demanded.specs.CarryLaws.{last-between, end-behind-last, defects-between, goes-on-inside, goes-on-end, needed-some, needed-none, no-record-heard}
 
 -- A FUNCTION THAT WRITES, and that it meets the contract
 abbrev pub Writer : Type 0
-Writer = Given → Outcome Written
+Writer = Given → Response Written
 
 abbrev pub Writes : Writer → Type 0
 Writes w = Meets (contract write) w
@@ -154,7 +155,7 @@ module _ (w : Writer) (meets : Writes w) where
     counted-after = ap (λ (s : List ℕ). counted s slot) left ∙ write-counts image g slot bodies lengths n accepted so .1
 
     pub blocks-are : (n ≡ needed label bodies lengths)
-        × ((counter : InSlot → Outcome Counted) → Meets (contract count) counter → counter (inSlot after slot) .answer ≡ Count n)
+        × ((counter : InSlot → Response Counted) → Meets (contract count) counter → counter (inSlot after slot) .answer ≡ Count n)
     blocks-are = (needs, (λ counter counts. counts (inSlot after slot) .0 ∙ counted-after))
 
     -- "changes no byte but the sectors it fills and two fields of the label": the length stays, and every byte is as before or `MayChange`, that is, in a
@@ -182,7 +183,7 @@ module _ (w : Writer) (meets : Writes w) where
         )
 
     -- "an accepted write reads back as its list": whoever reads it afterwards, plainly or by salvage, from Start and on, hears the list and then End. (The output
-    -- has room for every record, and there is one reading more than there are records.)
+    -- has room for every record, `RoomFor`, and there is one reading more than there are records. `told body`: a record with these bytes is heard; `done`: End is.)
     pub reads-back : (m : Mode) (r : Reader) → Reads m r → (readings : ℕ) (out : List ℕ) → RoomFor (length out) lengths → length lengths + 1 ≤ readings
         → followed readings r after slot out start ≡ map told (parted bodies lengths) ++ (done ∷ [])
     reads-back m r reads readings out room enough =
@@ -190,13 +191,26 @@ module _ (w : Writer) (meets : Writes w) where
         ∙ ap (λ (s : List ℕ). following readings m s slot out start) left
         ∙ write-reads-back image g slot bodies lengths n accepted so m readings out room enough
 
-    -- and with any number of readings and any output: so much of it, up to the first record that is too long for the output, where 23 is heard
+    -- and with any number of readings and any output: so much of it, up to the first record that is too long for the output, where 23 is heard (`toldIn`)
     pub reads-back-in : (m : Mode) (r : Reader) → Reads m r → (readings : ℕ) (out : List ℕ)
         → followed readings r after slot out start ≡ take readings (toldIn (length out) (parted bodies lengths))
     reads-back-in m r reads readings out =
         followed-is m r reads readings after slot out start
         ∙ ap (λ (s : List ℕ). following readings m s slot out start) left
         ∙ written-heard-in image g slot bodies lengths accepted passed m readings out
+
+    -- and after any of the sectors fail that demand 3 speaks of, salvage gives of the records written every one no block of which is lost, and one gap for each
+    -- lost block
+    pub salvages-back : (salvager : Reader) → Reads salvage salvager → (image′ : List ℕ) (hit : ℕ → Bool) → Failed g hit after image′
+        → Spares g hit after (labelAt g after slot) → SalvagedAs salvager g hit after image′ slot (parted bodies lengths)
+    salvages-back salvager salvages image′ hit fail spares =
+        let heard = written-whole image g slot bodies lengths accepted passed in
+        let reader = answered (contract (read plain)) in
+        let again =
+        followed-is plain _ reader (heard .readings) after slot (heard .out) start
+        ∙ ap (λ (s : List ℕ). following (heard .readings) plain s slot (heard .out) start) left
+        ∙ heard .hears in
+        salvager-gives _ salvager reader salvages after image′ g slot (parted bodies lengths) hit stays-accepted (heard .readings) (heard .out) again fail spares
 
     -- Every other file is as before: every reading of it by whatever function, its count, its label.
     pub others-read-as-before : (other : ℕ) → (other ≡ slot → ⊥) → (m : Mode) (r : Reader) → Reads m r → (pl : Place) (out : List ℕ)
@@ -213,7 +227,7 @@ module _ (w : Writer) (meets : Writes w) where
               ∙ sym (reads (ask image other pl out) .1),
         )
 
-    pub others-counted-as-before : (other : ℕ) → (other ≡ slot → ⊥) → (counter : InSlot → Outcome Counted) → Meets (contract count) counter
+    pub others-counted-as-before : (other : ℕ) → (other ≡ slot → ⊥) → (counter : InSlot → Response Counted) → Meets (contract count) counter
         → counter (inSlot after other) .answer ≡ counter (inSlot image other) .answer
     others-counted-as-before other ne counter counts =
         alike (contract count) counter counts (inSlot after other) (inSlot image other)
@@ -224,22 +238,22 @@ module _ (w : Writer) (meets : Writes w) where
         ap (λ (s : List ℕ). labelAt g s other) left ∙ labels-stay image g slot bodies lengths accepted passed other ne low high
 
     -- and so is the volume, what is found by every name and in every slot, and the number of free records
-    pub judged-as-before : (judger : List ℕ → Outcome Judged) → Meets (contract judge) judger → judger after .answer ≡ judger image .answer
+    pub judged-as-before : (judger : List ℕ → Response Judged) → Meets (contract judge) judger → judger after .answer ≡ judger image .answer
     judged-as-before judger judges = alike (contract judge) judger judges after image (stays-accepted ∙ sym accepted)
 
-    pub found-as-before : (finder : ByName → Outcome Found) → Meets (contract find) finder → (name : List ℕ)
+    pub found-as-before : (finder : ByName → Response Found) → Meets (contract find) finder → (name : List ℕ)
         → finder (named after name) .answer ≡ finder (named image name) .answer
     found-as-before finder finds name =
         alike (contract find) finder finds (named after name) (named image name)
         (ap (λ (s : List ℕ). found s name) left ∙ finding-stays image g slot bodies lengths n accepted so .0 name)
 
-    pub found-in-slot-as-before : (finder : InSlot → Outcome Found) → Meets (contract find-slot) finder → (s : ℕ)
+    pub found-in-slot-as-before : (finder : InSlot → Response Found) → Meets (contract find-slot) finder → (s : ℕ)
         → finder (inSlot after s) .answer ≡ finder (inSlot image s) .answer
     found-in-slot-as-before finder finds s =
         alike (contract find-slot) finder finds (inSlot after s) (inSlot image s)
         (ap (λ (t : List ℕ). foundAt t s) left ∙ finding-stays image g slot bodies lengths n accepted so .1 s)
 
-    pub free-as-before : (counter : List ℕ → Outcome Counted) → Meets (contract free) counter → counter after .answer ≡ counter image .answer
+    pub free-as-before : (counter : List ℕ → Response Counted) → Meets (contract free) counter → counter after .answer ≡ counter image .answer
     free-as-before counter counts =
         alike (contract free) counter counts after image (ap freeCount left ∙ finding-stays image g slot bodies lengths n accepted so .2)
 
@@ -262,6 +276,26 @@ module _ (w : Writer) (meets : Writes w) where
           (λ h. then .1 (order-first (writeList g image s b l) x (sym same ∙ first-order (writeList g after s b l) x (now .0 h)))),
           (λ h. now .1 (order-first (writeList g after s b l) x (same ∙ first-order (writeList g image s b l) x (then .0 h)))),
         )
+
+    -- and where it is not refused, it is answered as it would have been
+    needing-stays : (s : ℕ) (b l : List ℕ) → writeRefusal g image s b l ≡ Passed → needed (labelAt g image s) b l ≡ needed (labelAt g after s) b l
+    needing-stays s b l unrefused =
+        either (eq-or-not s slot)
+        (λ (e : s ≡ slot).
+        subst (λ (k : ℕ). needed (labelAt g image k) b l ≡ needed (labelAt g after k) b l) (sym e)
+        (sym (ap (λ (t : List ℕ). needed (labelAt g t slot) b l) left ∙ needing-again image g slot bodies lengths accepted passed b l)))
+        (λ (ne : s ≡ slot → ⊥).
+        let inside = has-slot g image s (passing g image s b l unrefused .labelled) in
+        ap (λ (h : List ℕ). needed h b l) (sym (other-labels-stay s ne (inside .0) (inside .1))))
+
+    pub answered-as-before : (s : ℕ) (b l : List ℕ) → w (give after s b l) .answer ≡ w (give image s b l) .answer
+    answered-as-before s b l = on (w (give image s b l) .answer) refl
+      where
+        on : (a : Written) → w (give image s b l) .answer ≡ a → w (give after s b l) .answer ≡ w (give image s b l) .answer
+        on (Unwritten x) e = refused-as-before s b l x .1 e ∙ sym e
+        on (Blocks k) e =
+            let p = accepts-by-the-list image s b l g k accepted .0 e in
+            accepts-by-the-list after s b l g k stays-accepted .1 (refusing-stays s b l ∙ p .0, p .1 ∙ needing-stays s b l (p .0)) ∙ sym e
 
     -- ======== THE CARRY OF THE DATA END
     -- "after a write that ends at the last sector of a track, side or cylinder the data end is the next track's first address (or the step past the extent),

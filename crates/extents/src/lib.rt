@@ -30,7 +30,7 @@ pub enum Condition {
 }
 
 // "A record of the extent is defective if its mark is incorrect and its first byte `F`"
-pub fn is_defective(g: Geometry, image: &[u8], a: Address) -> bool
+fn is_defective(g: Geometry, image: &[u8], a: Address) -> bool
     requires { ⌜ legal g a ≡ true ⌝ }
     ensures { λ r. ⌜ r ≡ isDefective g (now (image .entry)) a ⌝ }
 {

@@ -90,7 +90,7 @@ pub enum Class {
     Space,
 }
 
-pub fn in_class(t: Class, c: u64) -> bool
+fn in_class(t: Class, c: u64) -> bool
     ensures { λ r. ⌜ r ≡ classed t c ⌝ }
 {
     match t {
@@ -209,7 +209,7 @@ pub fn number_5(f: &[u8]) -> u64
     one_more(d, byte_at(f, 4))
 }
 
-pub fn hex_digit(c: u64) -> u64
+fn hex_digit(c: u64) -> u64
     requires { ⌜ c < 256 ⌝ }
     ensures { λ r. ⌜ (r ≡ hexValue c) × (r < 512) ⌝ }
 {

@@ -18,7 +18,7 @@ ghost use Prim.Native.Nat.{_<_};
 ghost use lib.ListN.{length};
 ghost use Rattle.standard.specs.Characters.{bytes, field, same};
 ghost use Rattle.standard.specs.Addresses.{rank};
-ghost use Rattle.standard.specs.Labels.{level, knownLevel, nameOf, blockLength, startOf, endOf, isFixed, isVariable, isSpanned, recordLength, unusedCount, isBlocked, dataEndOf, formatOf};
+ghost use Rattle.standard.specs.Labels.{level, knownLevel, nameOf, blockLength, startOf, endOf, recordLength, unusedCount, isBlocked, dataEndOf, formatOf};
 ghost use Rattle.labels.specs.Forms.{formIn};
 
 // "40 space or F (fixed), V, S"
@@ -74,7 +74,7 @@ pub fn end_of(h: &[u8]) -> Address
     Address::spelled(&h[34..39])
 }
 
-pub fn data_end_of(h: &[u8]) -> Address
+fn data_end_of(h: &[u8]) -> Address
     requires { ⌜ length (now h) ≡ 128 ⌝ }
     ensures { λ r. ⌜ (r ≡ dataEndOf (now (h .entry))) × (r .cylinder < 3000) × (r .side < 256) × (r .sector < 3000) ⌝ }
 {
@@ -103,28 +103,7 @@ pub fn data_end_rank(g: Geometry, h: &[u8]) -> u64
 }
 
 // "40 space or F (fixed), V, S"
-pub fn is_fixed(h: &[u8]) -> bool
-    requires { ⌜ length (now h) ≡ 128 ⌝ }
-    ensures { λ r. ⌜ r ≡ isFixed (now (h .entry)) ⌝ }
-{
-    one_of_2(wide(h[39]), 32, 70)
-}
-
-pub fn is_variable(h: &[u8]) -> bool
-    requires { ⌜ length (now h) ≡ 128 ⌝ }
-    ensures { λ r. ⌜ r ≡ isVariable (now (h .entry)) ⌝ }
-{
-    one_of_1(wide(h[39]), 86)
-}
-
-pub fn is_spanned(h: &[u8]) -> bool
-    requires { ⌜ length (now h) ≡ 128 ⌝ }
-    ensures { λ r. ⌜ r ≡ isSpanned (now (h .entry)) ⌝ }
-{
-    one_of_1(wide(h[39]), 83)
-}
-
-// The format of a label.
+// "40 space or F (fixed), V, S": the format of a label.
 pub fn form_of(h: &[u8]) -> Form
     requires { ⌜ length (now h) ≡ 128 ⌝ }
     ensures { λ r. ⌜ r ≡ formIn (formatOf (now (h .entry))) ⌝ }

@@ -13,7 +13,7 @@ use standard::wide;
 ghost use mathlib.Core.Path.{_≡_};
 ghost use Prim.Native.Nat.{_+_, _-_, _*_, _<_, _≤_};
 ghost use lib.ListN.{length};
-ghost use Rattle.standard.specs.Layout.{indexSectors, sectorCount, kAt, kindOffset, imageLength, kindAt, firstByte, validMark, incorrectMark, checkFailed, indexKind, indexBody, slotCount, slotOrdinal, labelOffset, labelAt};
+ghost use Rattle.standard.specs.Layout.{indexSectors, kAt, kindOffset, imageLength, kindAt, firstByte, incorrectMark, checkFailed, indexKind, indexBody, slotCount, slotOrdinal, labelOffset, labelAt};
 ghost use Rattle.standard.specs.Defects.{skipOne, physical};
 ghost use Rattle.standard.specs.Addresses.{ordinal};
 ghost use Rattle.standard.specs.Refusals.{refuse};
@@ -21,23 +21,17 @@ ghost use Rattle.standard.specs.Judgement.{refusal6};
 ghost use Rattle.layout.specs.Room.{Room};
 ghost use Rattle.layout.specs.Runs.{kindOf, legalRun};
 
-// The sectors of the index cylinder; those of the cylinders behind it; all of them.
-pub fn index_sectors(g: Geometry) -> u64
+// The sectors of the index cylinder; those of the cylinders behind it.
+fn index_sectors(g: Geometry) -> u64
     ensures { λ r. ⌜ (r ≡ indexSectors g) × (r < 65536) ⌝ }
 {
     times(wide(g.S), wide(g.I))
 }
 
-pub fn later_sectors(g: Geometry) -> u64
+fn later_sectors(g: Geometry) -> u64
     ensures { λ r. ⌜ (r ≡ (g .L + 3) * g .S * g .D) × (r < 33554432) ⌝ }
 {
     times(times(wide(g.L) + 3, wide(g.S)), wide(g.D))
-}
-
-pub fn sector_count(g: Geometry) -> u64
-    ensures { λ r. ⌜ (r ≡ sectorCount g) × (r < 67108864) ⌝ }
-{
-    index_sectors(g) + later_sectors(g)
 }
 
 // "Length: S·I·129 + (L+3)·S·D·(P+1) bytes"
@@ -82,7 +76,7 @@ pub fn kind_offset(g: Geometry, n: u64) -> u64
     first * 129 + times16(n - first, wide16(g.P) + 1)
 }
 
-pub fn kind_at(g: Geometry, image: &[u8], n: u64) -> u64
+fn kind_at(g: Geometry, image: &[u8], n: u64) -> u64
     requires { ⌜ n < 4294967296 ⌝ }
     ensures { λ r. ⌜ (r ≡ kindAt g (now (image .entry)) n) × (r < 256) ⌝ }
 {
@@ -97,14 +91,6 @@ pub fn first_byte(g: Geometry, image: &[u8], n: u64) -> u64
 }
 
 // "Kind k: valid data mark. Kind 16+k: incorrect-data mark. Kind 32+k: check failed, body not trusted."
-pub fn valid_mark(g: Geometry, image: &[u8], n: u64) -> bool
-    requires { ⌜ n < 4294967296 ⌝ }
-    ensures { λ r. ⌜ r ≡ validMark g (now (image .entry)) n ⌝ }
-{
-    let k = k_at(g, n);
-    kind_at(g, image, n) == k
-}
-
 pub fn incorrect_mark(g: Geometry, image: &[u8], n: u64) -> bool
     requires { ⌜ n < 4294967296 ⌝ }
     ensures { λ r. ⌜ r ≡ incorrectMark g (now (image .entry)) n ⌝ }
@@ -185,7 +171,7 @@ fn skip_one(d: u64, c: u64) -> u64
     c
 }
 
-pub fn physical_of(g: Geometry, c: u64) -> u64
+fn physical_of(g: Geometry, c: u64) -> u64
     requires { ⌜ c < 3000 ⌝ }
     ensures { λ r. ⌜ (r ≡ physical g c) × (c ≤ r) × (r ≤ c + 2) ⌝ }
 {

@@ -187,7 +187,7 @@ pub fn in_file(f: FileNumbers, pl: Place) -> bool
 }
 
 // A cursor on the first record of block b, or behind the last: "blocks take m good records in turn". By arithmetic where every record is good.
-pub fn block_start(image: &[u8], f: FileNumbers, b: u64) -> Cursor
+fn block_start(image: &[u8], f: FileNumbers, b: u64) -> Cursor
     requires { ⌜ (Opened (now image) f) × (b ≤ f .count) ⌝ }
     ensures { λ r. ⌜ Seated (now (image .entry)) f b r ⌝ }
 {

@@ -50,7 +50,7 @@ fn most(n: u64, limit: u64) -> u64
 }
 
 // "A refusal has its first place in bits 24-55, its second in bits 4-23, its third in bits 0-3": and its number in the top byte.
-pub fn pack_refusal(r: Refusal) -> u64
+fn pack_refusal(r: Refusal) -> u64
     ensures { λ p. ⌜ p ≡ packedRefusal r ⌝ }
 {
     standard::wide(r.number) * BIT_56
@@ -108,7 +108,7 @@ fn bit(b: bool) -> u64
 }
 
 // "bit 0 its mark, bits 1-15 its offset, bits 16-31 its block"
-pub fn pack_place(pl: Place) -> u64
+fn pack_place(pl: Place) -> u64
     requires { ⌜ PlaceFits pl ⌝ }
     ensures { λ p. ⌜ (p ≡ packedPlace pl) × (p < 2 ^ 32) ⌝ }
 {

@@ -1,6 +1,7 @@
--- THE DEMANDS, for a reader who proves nothing. Each promise stands under the sentence that it states; the lines behind `=` only name its proof. The
--- names in the statements are the definitions of crates/standard, which contracts cite; the few that are not are said where they first stand. `A → B`: if A
--- then B; `A × B`: both; `A ⊎ B`: one of them; `A → ⊥`: not A; `Passed`: no refusal of the list is given; `getD x i 0`: the byte at i.
+-- THE DEMANDS, of the definitions, for a reader who proves nothing: crates/demanded says them of any function that meets its contract. Each promise stands under
+-- the sentence that it states; the lines behind `=` only name its proof. The names in the statements are the definitions of crates/standard, which contracts
+-- cite; the few that are not are said where they first stand. `A → B`: if A then B; `A × B`: both; `A ⊎ B`: one of them; `A → ⊥`: not A; `Passed`: no refusal of
+-- the list is given; `getD x i 0`: the byte at i.
 -- Assumes nothing.
 use Prim.Native.Nat.{ℕ, _+_, _*_, _≤_, suc, _<_}
 use mathlib.Core.Path.{_≡_, sym, ap, _∙_}
@@ -33,8 +34,6 @@ use Rattle.standard.specs.declared.Counted.the-variants.{Uncounted, Count}
 use Rattle.standard.specs.declared.Found.the-variants.{Unfound, At}
 use Rattle.standard.specs.declared.Judged.the-variants.{Refused, Volume}
 use Rattle.standard.specs.declared.Written.the-variants.{Unwritten, Blocks}
-use Rattle.standard.specs.declared.Written.{Written}
-use Rattle.standard.specs.declared.Answer.{Answer}
 use Rattle.promises.specs.Refusing.{Exactly, First, accepted-write, volume-first, volume-stops, count-first, write-first, refusal-lays-nothing, gap-lays-nothing, end-lays-nothing, refusal-writes-nothing}
 use Rattle.promises.specs.VolumePromises.{RecordInRange, extent-in-range, no-record-shared}
 use Rattle.promises.specs.Sectors.{AgreeOn, sectorOf}
@@ -46,7 +45,6 @@ use Rattle.promises.specs.PlainFailed.{PlainlyRead, PlainFailedAnyPromis
 use Rattle.promises.specs.WritingPromises.{joined, answers, length-stays, accepted-still, unused-set, end-set, records-are, counts, writing-again, writing-stays, readings-stay, counts-stay, names-stay, slots-stay, free-stays}
 use Rattle.promises.specs.WrittenHeard.{RoomFor, written-heard-all}
 use Rattle.promises.specs.ByteSectors.{MayChange, write-changes}
-use Rattle.promises.specs.Determined.{Determinate, by-function, one-result-and-bytes}
 use Rattle.promises.specs.FindingLaws.{find-named, find-none, label-handed-out}
 use Rattle.promises.specs.FreeLaws.{extentsBelow, free-counted, free-is}
 use Rattle.promises.specs.ReadingRefused.{readList, read-first, record-laid, record-next, gap-next, end-next, LostIn}
@@ -315,27 +313,3 @@ unfolding LocalityPromise
 locality image image′ g g′ slot j j′ index extents =
     let l = locality-promise image image′ g g′ slot j j′ index extents in
     (l .1, l .2, l .3)
-
--- ======== DETERMINACY
--- "For each input a contract determines the result and every lent byte afterwards, refusals too. Show that any two results it allows are equal". A contract
--- relates an input to an outcome, which holds the result and the lent bytes; one that names the outcome as a function of the input allows one outcome.
-pub reading-determined : (m : Mode) (image : List ℕ) (slot : ℕ) (pl : Place) (out : List ℕ) (r r′ : Answer) (after after′ : List ℕ)
-    → (r ≡ readAnswer m image slot pl out) × (after ≡ outputAfter m image slot pl out)
-    → (r′ ≡ readAnswer m image slot pl out) × (after′ ≡ outputAfter m image slot pl out)
-    → (r ≡ r′) × (after ≡ after′)
-reading-determined m image slot pl out r r′ after after′ =
-    one-result-and-bytes (readAnswer m image slot pl out) (outputAfter m image slot pl out) r r′ after after′
-
-pub writing-determined : (image : List ℕ) (slot : ℕ) (bodies lengths : List ℕ) (r r′ : Written) (after after′ : List ℕ)
-    → (r ≡ written image slot bodies lengths) × (after ≡ imageAfter image slot bodies lengths)
-    → (r′ ≡ written image slot bodies lengths) × (after′ ≡ imageAfter image slot bodies lengths)
-    → (r ≡ r′) × (after ≡ after′)
-writing-determined image slot bodies lengths r r′ after after′ =
-    one-result-and-bytes (written image slot bodies lengths) (imageAfter image slot bodies lengths) r r′ after after′
-
--- and so for every contract of that form
-pub determined : {Input Outcome : Type 0} (Contract : Input → Outcome → Type 0) (named : Input → Outcome)
-    → ((i : Input) (o : Outcome) → Contract i o → o ≡ named i)
-    → (i : Input) (o o′ : Outcome) → Contract i o → Contract i o′ → o ≡ o′
-unfolding Determinate
-determined = by-function

@@ -31,7 +31,7 @@ use Rattle.standard.specs.declared.Checked.the-variants.{Passed}
 use Rattle.standard.specs.declared.Written.the-variants.{Blocks}
 use Rattle.promises.specs.Sectors.{sectorOf}
 use Rattle.promises.specs.ReadingLaws.{bodyOf, Reads}
-use Rattle.promises.specs.Following.{told, hole, done, following, refused}
+use Rattle.promises.specs.Following.{told, gapAt, done, following, refused}
 use Rattle.promises.specs.Failing.{Failed, recordsOf, OfBlocks, ReadsWhole, Salvaged, gone, anyHit}
 use Rattle.promises.specs.Failable.{failedAt, failedIn, among, some-fail}
 use Rattle.promises.specs.Promises.{SalvagePromise, salvage-promise}
@@ -100,7 +100,7 @@ bodies = bytes "AAAAAAAA" ∷ bytes "BBBBBBBBBBBB" ∷ bytes "CCC" ∷ []
 -- of block 1.
 pub computed : (judged image ≡ Volume geometry)
     × (following 4 plain image 1 output start ≡ map told bodies ++ (done ∷ []))
-    × (following 4 salvage (failedAt geometry 9 image) 1 output start ≡ told (bytes "AAAAAAAA") ∷ hole 1 ∷ told (bytes "CCC") ∷ done ∷ [])
+    × (following 4 salvage (failedAt geometry 9 image) 1 output start ≡ told (bytes "AAAAAAAA") ∷ gapAt 1 ∷ told (bytes "CCC") ∷ done ∷ [])
     × (following 4 plain (failedAt geometry 9 image) 1 output start ≡ told (bytes "AAAAAAAA") ∷ refused (refuse 20 1) ∷ [])
     × (kindOffset geometry 9 < length image)
     × (1 < blockCount geometry image (labelAt geometry image 1))
@@ -110,7 +110,7 @@ pub computed : (judged image ≡ Volume geometry)
     -- Of the second: WHAT DEMAND 3 DOES NOT PROMISE. Where the sector of the defective record fails, it counts as good ("check-failed ones included"), the
     -- blocks move by one record, and salvage gives B, C. (docs/DECISIONS.md, 7.12)
     × (following 3 plain withDefect 1 (replicate 256 255) start ≡ told (of128 65 ++ of128 66) ∷ told (of128 67 ++ of128 68) ∷ done ∷ [])
-    × (following 3 salvage (failedAt defectVolume 8 withDefect) 1 (replicate 256 255) start ≡ hole 0 ∷ told (of128 66 ++ of128 67) ∷ done ∷ [])
+    × (following 3 salvage (failedAt defectVolume 8 withDefect) 1 (replicate 256 255) start ≡ gapAt 0 ∷ told (of128 66 ++ of128 67) ∷ done ∷ [])
 unfolding withDefect image oneOf same every aSet isDigit digitValue numberFrom spacesOrNumber isHex hexValue hexFrom given-when inOrder orElse lowestFault ordinalAt sectorCount kAt bodySize kindOffset bodyOffset imageLength kindAt bodyAt firstByte validMark incorrectMark checkFailed indexKind indexBody slotCount slotOrdinal labelOffset labelAt vol1Rules ermapRules ermapRule7 ermapRule11 rule41 rule42 rule43 rule45 rule64 rule73 skipOne physical fiveDigits addressIn fiveRead legal rank before stepped pastLast isAddress isDataEnd ordinal knownLevel anotherLevel formatOf recordLength unusedCount rule44 rule6 rule29 rule35 rule40 rule23 rule63 rule46 spacesOrDate rule48 rule67 rule54 rule58 rule75 hdr1Rules labelFault isLabel isDeleted isUnreadable slotRefusal slotsFrom hasLabel numbersIn legalKind kindsFrom clashesBelow clashesFrom overlap shares sameName namesake volumeRefusal judged addressesFrom extentSize extent isDefective goodAmong goodRecords recordsToBlock goodBefore dataEndAtStart dataEndInExtent blocksHeld blockCount isWrong wrongAmong splitsBlock countRefusal counted openRefusal anyFailed bytesOf blockOf blocksFrom fileIn fileAt answer step inFile readOn enough readAll join listed number4 roleOf lookF lookV lookS look walk pieces inBlock inBlocks ahead replyIn reply laidOver following failedAt sectorOf recordsOf anyHit gone among
 computed = (refl, refl, refl, refl, omega arith, omega arith, refl, refl, refl, refl, refl)
 

@@ -39,7 +39,6 @@ pub mod FailedLaws
 pub mod Failable
 pub mod WholeLaws
 pub mod SalvageImage
-pub mod Determined
 pub mod Promises
 pub mod PlainFailed
 -- Records packed into blocks, and read back.

@@ -9,7 +9,7 @@ use lib.Dec.{eqb}
 use native.Mathlib.Omega.{arith}
 use native.Mathlib.Nat.{add-mul-div-right, add-mul-mod-self-right, div-eq-of-lt, mod-eq-of-lt}
 use borrow.Author.Tests.{lt-ltb, eq-eqb, ne-eqb}
-use Rattle.standard.specs.Packed.{packedRefusal, packedJudged, packedFound, packedCounted, packedPlace, packedAnswer, packedWritten}
+use Rattle.standard.specs.Packed.{most, packedRefusal, packedJudged, packedFound, packedCounted, packedPlace, packedAnswer, packedWritten}
 use Rattle.standard.specs.Judgement.{judged}
 use Rattle.standard.specs.Finding.{found}
 use Rattle.standard.specs.Free.{freeCount}
@@ -33,7 +33,7 @@ use Rattle.standard.specs.declared.Written.the-variants.{Unwritten, Blocks}
 use Rattle.promises.specs.VolumeNumbers.{numbers-of}
 use Rattle.promises.specs.Sizes.{Small, volume-small, find-small, count-small, free-small, defects-low, find-low, count-few, free-low}
 use Rattle.promises.specs.ReadingSizes.{PlaceSmall, AnswerSmall, reading-small}
-use Rattle.promises.specs.WritingSizes.{write-small, write-few}
+use Rattle.promises.specs.WritingSizes.{capped, most-low, write-small, write-few}
 
 -- ---- the caller's side
 -- so many bits of a number, from a bit on
@@ -92,6 +92,11 @@ answerBack n =
 abbrev pub writtenBack : ℕ → Written
 writtenBack n = cond (isDone n) (Blocks (bits 0 56 n)) (Unwritten (refusalBack n))
 
+-- "A first place above 2^32-1 is given as 2^32-1": only in writing, of lists that fit in no machine
+abbrev pub cappedWritten : Written → Written
+cappedWritten (Unwritten r) = Unwritten (capped r)
+cappedWritten (Blocks n) = Blocks n
+
 -- ---- a number made of parts: the part in the middle
 part-is : (x y low b high : ℕ) → low < x → b < y → (low + b * x + high * (x * y)) / x % y ≡ b
 part-is x y low b high l h =
@@ -118,6 +123,11 @@ unfolding packedRefusal
 packed-small r s =
     let t : r .third < 16 = omega (arith, s .third-none) in
     simp (lt-ltb (r .first) (2 ^ 32) (s .first-low), lt-ltb (r .second) (2 ^ 20) (s .second-low), lt-ltb (r .third) (2 ^ 4) t)
+
+-- a refusal and the same with its first place capped have one number
+packed-capped : (r : Refusal) → packedRefusal r ≡ packedRefusal (capped r)
+unfolding packedRefusal
+packed-capped r = let e = lt-ltb (most 32 (r .first)) (2 ^ 32) (most-low (r .first)) in ap (λ (x : ℕ). r .number * 2 ^ 56 + x * 2 ^ 24 + most 20 (r .second) * 2 ^ 4 + most 4 (r .third)) (sym (rw e refl))
 
 refusal-code : (r : Refusal) → Small r → (codeOf (packedRefusal r) ≡ r .number) × (isDone (packedRefusal r) ≡ false)
 refusal-code r s =
@@ -309,16 +319,16 @@ module _ (image : List ℕ) where
       → answerBack (packedAnswer (readAnswer m image slot pl out)) ≡ readAnswer m image slot pl out
   read-exact m slot pl out = answer-back (readAnswer m image slot pl out) (reading-small m image slot pl out)
 
-  -- a write, where no place of its refusal is above 2^32-1: "A first place above 2^32-1 is given as 2^32-1"
-  pub write-exact : (slot : ℕ) (bodies lengths : List ℕ) → ((r : Refusal) → written image slot bodies lengths ≡ Unwritten r → r .first < 2 ^ 32)
-      → writtenBack (packedWritten (written image slot bodies lengths)) ≡ written image slot bodies lengths
+  -- a write, of which a first place above 2^32-1 is given as 2^32-1, and nothing else is lost
+  pub write-exact : (slot : ℕ) (bodies lengths : List ℕ)
+      → writtenBack (packedWritten (written image slot bodies lengths)) ≡ cappedWritten (written image slot bodies lengths)
   unfolding packedWritten
-  write-exact slot bodies lengths low = on (written image slot bodies lengths) refl
+  write-exact slot bodies lengths = on (written image slot bodies lengths) refl
     where
-      on : (w : Written) → written image slot bodies lengths ≡ w → writtenBack (packedWritten w) ≡ w
+      on : (w : Written) → written image slot bodies lengths ≡ w → writtenBack (packedWritten w) ≡ cappedWritten w
       on (Unwritten r) e =
-          let s = write-small image slot bodies lengths r e (low r e) in
-          rw (refusal-code r s .1) (ap Unwritten (refusal-back r s))
+          let s = write-small image slot bodies lengths r e in
+          ap writtenBack (packed-capped r) ∙ rw (refusal-code (capped r) s .1) (ap Unwritten (refusal-back (capped r) s))
       on (Blocks n) e =
           let few = write-few image slot bodies lengths n e in
           let done : isDone n ≡ true = eq-eqb (codeOf n) 0 (omega arith) in

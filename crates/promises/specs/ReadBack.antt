@@ -195,7 +195,7 @@ module _ (image : List ℕ) (g : Geometry) (slot : ℕ) (bodies lengths : List �
   unfolding blocksHeld
   room-same = rw (good-kept, m-same)
 
-  packed-same : (b l : List ℕ) → packing k b l ≡ packing h b l
+  pub packed-same : (b l : List ℕ) → packing k b l ≡ packing h b l
   unfolding packing
   packed-same b l = rw (params-same h k alike, f23 h k alike)
 

@@ -19,7 +19,7 @@ use Rattle.standard.specs.declared.Checked.the-variants.{Passed}
 use Rattle.standard.specs.declared.Judged.the-variants.{Volume}
 use Rattle.promises.specs.Basics.{either, never}
 use Rattle.promises.specs.ReadingLaws.{bodyOf}
-use Rattle.promises.specs.Following.{Heard, told, hole, done, refused, following, tooLong, heardIn}
+use Rattle.promises.specs.Following.{Heard, told, gapAt, done, refused, following, tooLong, heardIn}
 use Rattle.promises.specs.FollowingLaws.{following-any}
 use Rattle.promises.specs.Failing.{Failed, OfBlocks, Spares, ReadsWhole, gone, expected, Salvaged}
 use Rattle.promises.specs.Promises.{SalvageAnyPromise, salvage-any-promise, SalvagePromise, salvage-promise}
@@ -80,7 +80,7 @@ heard-in-mem room body (rec q ∷ is) m =
     (λ e. (q, List·Memᴰ·head refl, e))
     (λ k. told-tail body (rec q) is (heard-in-mem room body is k))
 heard-in-mem room body (gap b ∷ is) m =
-    either (List·Memᴰ·cases-cons m) (λ (e : told body ≡ hole b). never (cc))
+    either (List·Memᴰ·cases-cons m) (λ (e : told body ≡ gapAt b). never (cc))
     (λ (k : List·Memᴰ (told body) (heardIn room is)). told-tail body (gap b) is (heard-in-mem room body is k))
 heard-in-mem room body (end ∷ is) m =
     either (List·Memᴰ·cases-cons m) (λ (e : told body ≡ done). never (cc))

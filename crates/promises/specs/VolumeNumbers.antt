@@ -4,9 +4,10 @@ use Prim.Native.Nat.{ℕ, _+_, _-_, _*_, _^_, _<_, _≤_}
 use mathlib.Core.Path.{_≡_, refl, subst}
 use mathlib.Core.Bool.{Bool, true, false, cond, not, _&&_, _||_}
 use mathlib.Core.List.{List}
+use lib.ListN.{length}
 use lib.Dec.{leb, ltb, eqb}
 use native.Mathlib.Omega.{arith}
-use native.Mathlib.Nat.{one-le-pow, mul-le-mul-right, pow-le-pow-right}
+use native.Mathlib.Nat.{one-le-pow, mul-le-mul, mul-le-mul-right, pow-le-pow-right}
 use borrow.Author.Tests.{ltb-false, leb-true, eqb-true, ltb-true}
 use Rattle.standard.specs.Layout.{sectorCount, indexSectors, imageLength, slotCount, slotOrdinal, labelOffset, vol1Of, ermapOf}
 use Rattle.standard.specs.Characters.{bytes, oneOf, at, isSpace, field, hexDigits, hex, spaces, digitValue}
@@ -19,11 +20,15 @@ use Rattle.standard.specs.declared.Judged.the-variants.{Volume}
 use Rattle.promises.specs.Basics.{true-not-false, and-l, and-r}
 use Rattle.promises.specs.Tiling.{size-index, sector-in-image}
 use Rattle.promises.specs.Judging.{not-given, rows-each, accepted}
+use Rattle.promises.specs.AcceptedLaws.{image-length}
 
+-- "81-82 hex L, 1-96; 83-84 hex I, 8-26; 85-86 hex D, 1-26; 89 hex S, 1-2"; "With k = 0 to 3 the body has 128·2^k bytes."
 pub record Numbers (g : Geometry) : Type 0 where
+  pub cylinders-low : 1 ≤ g .L
   pub cylinders : g .L ≤ 96
   pub index-low : 8 ≤ g .I
   pub index-high : g .I ≤ 26
+  pub sectors-low : 1 ≤ g .D
   pub sectors : g .D ≤ 26
   pub side-low : 1 ≤ g .S
   pub side-high : g .S ≤ 2
@@ -58,9 +63,11 @@ of-rules image z =
     let d = hex-bounds 1 26 (field v 85 86) r85 in
     let s = hex-bounds 1 2 (field v 89 89) r89 in
     record {
+      cylinders-low = l .0;
       cylinders = l .1;
       index-low = i .0;
       index-high = i .1;
+      sectors-low = d .0;
       sectors = d .1;
       side-low = s .0;
       side-high = s .1;
@@ -121,3 +128,20 @@ unfolding labelOffset sectorCount
 label-room g slot n l =
     let i = slot-in-index g slot n l in
     omega (arith, sector-in-image g (slotOrdinal slot) (omega arith), size-index g (slotOrdinal slot) i)
+
+-- "from 1,548 to 5,283,408" bytes: an accepted image is neither shorter nor longer
+pub image-range : (image : List ℕ) (g : Geometry) → judged image ≡ Volume g → (1548 ≤ length image) × (length image ≤ 5283408)
+unfolding imageLength
+image-range image g j =
+    let n = numbers-of image g j in
+    let e = image-length image g j in
+    let power = one-le-pow (g .k) 2 (omega arith) in
+    let bytes-least : 129 ≤ g .P + 1 = omega (arith, n .size-is, power) in
+    let bytes-most : g .P + 1 ≤ 1025 = omega (arith, n .size-high) in
+    let cylinders-least : 4 ≤ g .L + 3 = omega (arith, n .cylinders-low) in
+    let cylinders-most : g .L + 3 ≤ 99 = omega (arith, n .cylinders) in
+    let index-least : 1 * 8 ≤ g .S * g .I = mul-le-mul (n .side-low) (n .index-low) in
+    let index-most : g .S * g .I ≤ 2 * 26 = mul-le-mul (n .side-high) (n .index-high) in
+    let least = mul-le-mul (mul-le-mul (mul-le-mul cylinders-least (n .side-low)) (n .sectors-low)) bytes-least in
+    let most = mul-le-mul (mul-le-mul (mul-le-mul cylinders-most (n .side-high)) (n .sectors)) bytes-most in
+    (omega (arith, e, index-least, least), omega (arith, e, index-most, most))

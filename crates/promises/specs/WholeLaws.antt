@@ -22,7 +22,7 @@ use Rattle.standard.specs.declared.Checked.the-variants.{Passed, Stopped}
 use Rattle.standard.specs.declared.Judged.the-variants.{Volume}
 use Rattle.promises.specs.ReadingLaws.{Reads, reads-cons}
 use Rattle.promises.specs.ListedLaws.{Closed, listed-closed}
-use Rattle.promises.specs.Following.{Heard, told, hole, done, refused, onward, following, tooLong, heardIn}
+use Rattle.promises.specs.Following.{Heard, told, gapAt, done, refused, onward, following, tooLong, heardIn}
 use Rattle.promises.specs.FollowingLaws.{following-any}
 use Rattle.promises.specs.Failing.{ReadsWhole}
 
@@ -38,9 +38,9 @@ refused-whole : (x : Refusal) (hs : List Heard) (bodies : List (List ℕ)) → W
 refused-whole x hs [] h = let z : _≡_ {A = ℕ} 0 1 = cc in omega arith
 refused-whole x hs (y ∷ ys) h = let z : _≡_ {A = ℕ} 0 1 = cc in omega arith
 
-hole-whole : (b : ℕ) (hs : List Heard) (bodies : List (List ℕ)) → Whole (hole b ∷ hs) bodies → ⊥
-hole-whole b hs [] h = let z : _≡_ {A = ℕ} 0 1 = cc in omega arith
-hole-whole b hs (y ∷ ys) h = let z : _≡_ {A = ℕ} 0 1 = cc in omega arith
+gap-whole : (b : ℕ) (hs : List Heard) (bodies : List (List ℕ)) → Whole (gapAt b ∷ hs) bodies → ⊥
+gap-whole b hs [] h = let z : _≡_ {A = ℕ} 0 1 = cc in omega arith
+gap-whole b hs (y ∷ ys) h = let z : _≡_ {A = ℕ} 0 1 = cc in omega arith
 
 told-none : (body : List ℕ) (hs : List Heard) → Whole (told body ∷ hs) [] → ⊥
 told-none body hs h = let z : _≡_ {A = ℕ} 0 1 = cc in omega arith
@@ -70,7 +70,7 @@ heard-whole room zero is c bodies h = absurd (none-whole bodies h)
 heard-whole room (suc n) [] c bodies h = absurd c
 heard-whole room (suc n) (rec r ∷ is) c bodies h =
     rec-whole room (ltb room (length (r .body))) r is (heardIn room (take n is)) bodies h (λ xs w. heard-whole room n is c xs w)
-heard-whole room (suc n) (gap b ∷ is) c bodies h = absurd (hole-whole b _ bodies h)
+heard-whole room (suc n) (gap b ∷ is) c bodies h = absurd (gap-whole b _ bodies h)
 heard-whole room (suc n) (end ∷ is) c bodies h = end-whole is (heardIn room (take n is)) c bodies h
 heard-whole room (suc n) (no x ∷ is) c bodies h = absurd (refused-whole x _ bodies h)
 

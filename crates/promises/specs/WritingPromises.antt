@@ -18,7 +18,7 @@ use Rattle.standard.specs.Judgement.{judged}
 use Rattle.standard.specs.Finding.{found, foundAt}
 use Rattle.standard.specs.Free.{freeCount}
 use Rattle.standard.specs.Records.{Mode, plain, salvage, readAll}
-use Rattle.standard.specs.Packing.{fileOf}
+use Rattle.standard.specs.Packing.{Packing, fileOf}
 use Rattle.standard.specs.Reading.{reply}
 use Rattle.standard.specs.declared.Geometry.{Geometry}
 use Rattle.standard.specs.declared.Place.{Place}
@@ -45,7 +45,7 @@ use Rattle.promises.specs.AcceptedWrite.{passing, outcome-is, takenBy, s
 use Rattle.promises.specs.WrittenImage.{result, result-whole, result-unused, result-end}
 use Rattle.promises.specs.WrittenLabel.{packing-right}
 use Rattle.promises.specs.AcceptedAgain.{other-sector, views, again}
-use Rattle.promises.specs.ReadBack.{count-back, opens-back, file-back, written-again}
+use Rattle.promises.specs.ReadBack.{count-back, opens-back, file-back, packed-same, written-again}
 use Rattle.promises.specs.OtherFiles.{other-same}
 
 -- "Writing takes all record bodies joined, and their lengths." What is parted is the bodies, each of its length.
@@ -186,6 +186,11 @@ module _ (image : List ℕ) (g : Geometry) (slot : ℕ) (bodies lengths : List �
   -- 5. EVERY FURTHER WRITE: refused or not as before
   pub writing-again : (b l : List ℕ) → writeRefusal g after slot b l ≡ writeRefusal g image slot b l
   writing-again b l = ap (λ (s : List ℕ). writeRefusal g s slot b l) after-t ∙ written-again image g slot bodies lengths j w b l
+
+  -- and it needs as many blocks: the label says of B, R and the format what it said
+  pub needing-again : (b l : List ℕ) → needed (labelAt g after slot) b l ≡ needed label b l
+  needing-again b l =
+      ap (λ (s : List ℕ). needed (labelAt g s slot) b l) after-t ∙ ap (λ (p : Packing). length (p .contents)) (packed-same image g slot bodies lengths j w b l)
 
   pub writing-stays : (other : ℕ) → (other ≡ slot → ⊥) → (b l : List ℕ) → writeRefusal g after other b l ≡ writeRefusal g image other b l
   writing-stays other ne b l = sym (write-same g image after other room (same-other other ne) b l)

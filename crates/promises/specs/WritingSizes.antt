@@ -3,10 +3,14 @@
 -- Assumes nothing.
 use Prim.Native.Nat.{ℕ, _^_, _<_, _≤_}
 use mathlib.Core.Path.{_≡_, refl, sym, ap, subst}
+use mathlib.Core.Bool.{true, false}
 use mathlib.Core.List.{List}
+use lib.Dec.{ltb}
 use native.Mathlib.Omega.{arith}
+use borrow.Author.Tests.{ltb-true}
 use Rattle.standard.specs.Layout.{labelAt}
 use Rattle.standard.specs.Refusals.{refuse}
+use Rattle.standard.specs.Packed.{most}
 use Rattle.standard.specs.Judgement.{judged}
 use Rattle.standard.specs.Writing.{needed, writeList, written, imageAfter}
 use Rattle.standard.specs.declared.Geometry.{Geometry}
@@ -14,43 +18,54 @@ use Rattle.standard.specs.declared.Refusal.{Refusal}
 use Rattle.standard.specs.declared.Judged.{Judged}
 use Rattle.standard.specs.declared.Judged.the-variants.{Refused, Volume}
 use Rattle.standard.specs.declared.Written.the-variants.{Unwritten, Blocks}
-use Rattle.promises.specs.Basics.{never}
+use Rattle.promises.specs.Basics.{never, by-test}
 use Rattle.promises.specs.Refusing.{first-order, volume-stops, write-first, accepted-write}
 use Rattle.promises.specs.PlacesNamed.{given-exactly, place-26}
 use Rattle.promises.specs.WritingPromises.{answers, counts}
-use Rattle.promises.specs.Sizes.{Small, small-one, small-given, by-order, by-none, labelled, thirteen-small, names-slot, wrong-small, volume-small, count-few}
+use Rattle.promises.specs.Sizes.{Small, by-order, by-none, labelled, thirteen-small, names-slot, wrong-small, volume-small, count-few}
 
--- a refusal with one place that has room is small
-one-small : (number place : ℕ) (r : Refusal) → 1 ≤ number → number ≤ 27 → r ≡ refuse number place → r .first < 2 ^ 32 → Small r
-one-small number place r l m e h =
-    let p : r .first ≡ place = ap (λ (q : Refusal). q .first) e in
-    subst Small (sym e) (small-one number place l m (omega arith))
+-- "A first place above 2^32-1 is given as 2^32-1."
+abbrev pub capped : Refusal → Refusal
+capped r = record { number = r .number; first = most 32 (r .first); second = r .second; third = r .third }
+
+pub most-low : (n : ℕ) → most 32 n < 2 ^ 32
+most-low n =
+    by-test (ltb n (2 ^ 32)) (λ (e : ltb n (2 ^ 32) ≡ true). rw e (ltb-true n (2 ^ 32) e)) (λ (e : ltb n (2 ^ 32) ≡ false). rw e (omega arith))
+
+-- so given, a refusal that is small is the same, and one with one place is small
+small-capped : (r : Refusal) → Small r → Small (capped r)
+small-capped r s =
+    record { number-low = s .number-low; number-high = s .number-high; first-low = most-low (r .first); second-low = s .second-low; third-none = s .third-none }
+
+one-capped : (number place : ℕ) (r : Refusal) → 1 ≤ number → number ≤ 27 → r ≡ refuse number place → Small (capped r)
+one-capped number place r l m e =
+    subst (λ (q : Refusal). Small (capped q)) (sym e)
+    (record { number-low = l; number-high = m; first-low = most-low place; second-low = omega arith; third-none = refl })
 
 module _ (image : List ℕ) (slot : ℕ) (bodies lengths : List ℕ) where
-  on-volume : (g : Geometry) → judged image ≡ Volume g → (r : Refusal) → written image slot bodies lengths ≡ Unwritten r → r .first < 2 ^ 32 → Small r
-  on-volume g j r w h =
-      by-order _ _ r (first-order (writeList g image slot bodies lengths) r (write-first image g j slot bodies lengths r .0 w)) (thirteen-small image g j slot r)
+  on-volume : (g : Geometry) → judged image ≡ Volume g → (r : Refusal) → written image slot bodies lengths ≡ Unwritten r → Small (capped r)
+  on-volume g j r w =
+      by-order _ _ r (first-order (writeList g image slot bodies lengths) r (write-first image g j slot bodies lengths r .0 w)) (λ e. small-capped r (thirteen-small image g j slot r e))
       (λ at h14. let l = labelled image g j slot at in
-      by-order _ _ r h14 (names-slot image g j slot l 14 (omega arith) (omega arith) _ r)
-      (λ _ h15. by-order _ _ r h15 (names-slot image g j slot l 15 (omega arith) (omega arith) _ r)
-      (λ _ h16. by-order _ _ r h16 (names-slot image g j slot l 16 (omega arith) (omega arith) _ r)
-      (λ _ h24. by-order _ _ r h24 (names-slot image g j slot l 24 (omega arith) (omega arith) _ r)
-      (λ _ h17. by-order _ _ r h17 (wrong-small image g j slot l r)
-      (λ _ h25. by-order _ _ r h25 (small-given _ _ r (small-one 25 0 (omega arith) (omega arith) (omega arith)))
-      (λ _ h26. by-order _ _ r h26
-      (λ e. one-small 26 _ r (omega arith) (omega arith) (place-26 (labelAt g image slot) 0 lengths r .0 e .is-so .1) h)
-      (λ _ h27. by-order _ _ r h27 (λ e. one-small 27 _ r (omega arith) (omega arith) (given-exactly _ _ r .0 e .1) h)
+      by-order _ _ r h14 (λ e. small-capped r (names-slot image g j slot l 14 (omega arith) (omega arith) _ r e))
+      (λ _ h15. by-order _ _ r h15 (λ e. small-capped r (names-slot image g j slot l 15 (omega arith) (omega arith) _ r e))
+      (λ _ h16. by-order _ _ r h16 (λ e. small-capped r (names-slot image g j slot l 16 (omega arith) (omega arith) _ r e))
+      (λ _ h24. by-order _ _ r h24 (λ e. small-capped r (names-slot image g j slot l 24 (omega arith) (omega arith) _ r e))
+      (λ _ h17. by-order _ _ r h17 (λ e. small-capped r (wrong-small image g j slot l r e))
+      (λ _ h25. by-order _ _ r h25 (λ e. one-capped 25 0 r (omega arith) (omega arith) (given-exactly _ _ r .0 e .1))
+      (λ _ h26. by-order _ _ r h26 (λ e. one-capped 26 _ r (omega arith) (omega arith) (place-26 (labelAt g image slot) 0 lengths r .0 e .is-so .1))
+      (λ _ h27. by-order _ _ r h27 (λ e. one-capped 27 _ r (omega arith) (omega arith) (given-exactly _ _ r .0 e .1))
       (λ _ none. by-none r none)))))))))
 
-  pub write-small : (r : Refusal) → written image slot bodies lengths ≡ Unwritten r → r .first < 2 ^ 32 → Small r
-  write-small r w h = on (judged image) refl
+  pub write-small : (r : Refusal) → written image slot bodies lengths ≡ Unwritten r → Small (capped r)
+  write-small r w = on (judged image) refl
     where
-      on : (v : Judged) → judged image ≡ v → Small r
+      on : (v : Judged) → judged image ≡ v → Small (capped r)
       on (Refused q) j =
           let e = volume-stops image q j .5 slot bodies lengths in
           let same : q ≡ r = cc in
-          subst Small same (volume-small image q j)
-      on (Volume g) j = on-volume g j r w h
+          small-capped r (subst Small same (volume-small image q j))
+      on (Volume g) j = on-volume g j r w
 
   pub write-few : (n : ℕ) → written image slot bodies lengths ≡ Blocks n → n ≤ 4992
   write-few n w = on (judged image) refl
