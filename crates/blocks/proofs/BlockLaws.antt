@@ -15,7 +15,7 @@ use Rattle.standard.specs.declared.Geometry.{Geometry}
 use Rattle.standard.specs.declared.Address.{Address}
 use Rattle.promises.specs.Lists.{Every}
 use Rattle.promises.specs.AddressLaws.{Legal}
-use Rattle.blocks.proofs.StreamLaws.{body-full}
+use Rattle.promises.specs.FullBlocks.{body-full}
 
 -- the blocks behind b blocks
 pub blocks-drop : (g : Geometry) (image h : List ℕ) (b left : ℕ) (more : List Address) → b ≤ left

@@ -2,7 +2,7 @@
 -- Assumes nothing.
 use Prim.Native.Nat.{ℕ, suc, zero, _+_, _-_, _<_, _≤_}
 use mathlib.Core.Path.{_≡_, refl, sym, ap, _∙_}
-use mathlib.Core.Bool.{Bool, true, false, _&&_}
+use mathlib.Core.Bool.{Bool, true, false, _&&_, and-true}
 use mathlib.Core.List.{List, [], _∷_, _++_}
 use lib.ListN.{getD, take, drop, length}
 use lib.Seq.{take-add, drop-drop, getD-drop, take-nil}
@@ -41,11 +41,7 @@ fill-not k n s l h = fill-split k n s l ∙ ap (λ (t : Bool). t && isFill (take
 -- one byte of a run of the image, from i to `to`
 one-fill : (s : List ℕ) → isFill (take 1 s) ≡ eqb (getD s 0 0) 0
 one-fill [] = refl
-one-fill (x ∷ s) = go (eqb x 0)
-  where
-    go : (t : Bool) → (t && true) ≡ t
-    go true = refl
-    go false = refl
+one-fill (x ∷ s) = and-true (eqb x 0)
 
 at-i : (s : List ℕ) (i : ℕ) → isFill (take 1 (drop i s)) ≡ eqb (getD s i 0) 0
 at-i s i =

@@ -2,7 +2,7 @@
 -- Assumes nothing.
 use Prim.Native.Nat.{ℕ, suc, zero, _-_, _<_, _≤_}
 use mathlib.Core.Path.{_≡_, refl, sym, ap, _∙_}
-use mathlib.Core.Bool.{Bool, true, false, _||_}
+use mathlib.Core.Bool.{Bool, true, false, _||_, or-false}
 use mathlib.Core.List.{List, [], _∷_}
 use lib.ListN.{take, drop}
 use lib.Seq.{take-nil}
@@ -16,17 +16,13 @@ use Rattle.standard.specs.declared.Address.{Address}
 use Rattle.extents.specs.Cursors.{standingFrom, standing}
 use Rattle.extents.specs.declared.Cursor.{Cursor}
 
-or-none : (b : Bool) → (b || false) ≡ b
-or-none true = refl
-or-none false = refl
-
 module _ (g : Geometry) (image : List ℕ) where
   -- the first one, then the others
   failed-split : (n : ℕ) (s : List Address) → 0 < n → anyFailed g image (take n s) ≡ (anyFailed g image (take 1 s) || anyFailed g image (take (n - 1) (drop 1 s)))
   unfolding anyFailed
   failed-split zero s h = absurd (omega arith)
   failed-split (suc n) [] h = simp (unary-clauses, take-nil {A = Address} n)
-  failed-split (suc n) (a ∷ s) h = simp unary-clauses (ap (λ (t : Bool). t || anyFailed g image (take n s)) (sym (or-none (checkFailed g image (ordinal g a)))))
+  failed-split (suc n) (a ∷ s) h = simp unary-clauses (ap (λ (t : Bool). t || anyFailed g image (take n s)) (sym (or-false (checkFailed g image (ordinal g a)))))
 
   pub failed-on : (n : ℕ) (s : List Address) → 0 < n → anyFailed g image (take 1 s) ≡ false
       → anyFailed g image (take (n - 1) (drop 1 s)) ≡ anyFailed g image (take n s)
@@ -47,7 +43,7 @@ module _ (g : Geometry) (image : List ℕ) where
   from-first : (left : ℕ) (c : Cursor) → 0 < left → anyFailed g image (take 1 (standingFrom g image left (c .at))) ≡ checkFailed g image (ordinal g (c .at))
   unfolding anyFailed
   from-first zero c h = absurd (omega arith)
-  from-first (suc n) c h = or-none (checkFailed g image (ordinal g (c .at)))
+  from-first (suc n) c h = or-false (checkFailed g image (ordinal g (c .at)))
 
   -- the record under a cursor
   pub failed-first : (c : Cursor) → 0 < c .left → anyFailed g image (take 1 (standing g image c)) ≡ checkFailed g image (ordinal g (c .at))

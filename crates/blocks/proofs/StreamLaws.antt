@@ -1,11 +1,11 @@
 -- The bytes ahead of a cursor: where they stand in the image, how many there are, and how they go on.
 -- Assumes nothing.
-use Prim.Native.Nat.{ℕ, suc, zero, _+_, _-_, _*_, _<_, _≤_}
-use mathlib.Core.Path.{_≡_, refl, sym, ap, _∙_}
+use Prim.Native.Nat.{ℕ, suc, zero, _+_, _*_, _<_, _≤_}
+use mathlib.Core.Path.{_≡_, sym, ap, _∙_}
 use mathlib.Core.Bool.{true}
 use mathlib.Core.List.{List, [], _∷_, _++_}
-use lib.ListN.{length, getD, take, drop, length-drop, length-append}
-use lib.Seq.{drop-drop, drop-nil, drop-append-le, take-append-le, drop-append-add, getD-take, getD-drop, length-take-le}
+use lib.ListN.{length, getD, take, drop, length-drop}
+use lib.Seq.{drop-drop, drop-nil, drop-append-le, take-append-le, drop-append-add, getD-take, getD-drop}
 use native.Mathlib.Omega.{arith}
 use native.Mathlib.Nat.{zero-mul, mul-le-mul-right}
 use Rattle.standard.specs.Layout.{bodyOffset, bodyAt, imageLength}
@@ -17,7 +17,9 @@ use Rattle.promises.specs.Basics.{and-l, and-r, either, lt-or-le}
 use Rattle.promises.specs.Lists.{Every}
 use Rattle.promises.specs.AddressLaws.{Legal}
 use Rattle.promises.specs.ExtentAddresses.{every-good}
+use Rattle.promises.specs.Splices.{part-part}
 use Rattle.promises.specs.Tiling.{address-size, address-room}
+use Rattle.promises.specs.FullBlocks.{body-full, bytes-full}
 use Rattle.extents.specs.Cursors.{legalOn, legalAt, goodFrom, standingFrom, standing}
 use Rattle.extents.specs.declared.Cursor.{Cursor}
 use Rattle.extents.proofs.CursorLaws.{legal-head}
@@ -40,15 +42,10 @@ pub standing-legal : (g : Geometry) (image : List ℕ) (c : Cursor) → legalAt 
 unfolding standing
 standing-legal g image c h = from-legal g image (c .left) (c .at) h
 
--- the body of a legal address: its part of the image, P bytes long
+-- the body of a legal address: its part of the image
 body-is : (g : Geometry) (image : List ℕ) (a : Address) → Legal g a → bodyAt g image (ordinal g a) ≡ take (g .P) (drop (bodyOffset g (ordinal g a)) image)
 unfolding bodyAt
 body-is g image a h = rw (address-size g a h)
-
-pub body-full : (g : Geometry) (image : List ℕ) (a : Address) → length image ≡ imageLength g → Legal g a → length (bodyAt g image (ordinal g a)) ≡ g .P
-body-full g image a e h =
-    let o = bodyOffset g (ordinal g a) in
-    ap length (body-is g image a h) ∙ length-take-le (g .P) (drop o image) (rw (length-drop o image) (omega (arith, address-room g a h, e)))
 
 -- RECORDS PASSED ARE BYTES PASSED
 pub bytes-drop : (g : Geometry) (image : List ℕ) → length image ≡ imageLength g → (n : ℕ) (xs : List Address) → Every (Legal g) xs
@@ -61,26 +58,11 @@ bytes-drop g image e (suc n) (a ∷ xs) h =
     let l : suc n * g .P ≡ length b + n * g .P = omega (arith, body-full g image a e (h .0)) in
     bytes-drop g image e n xs (h .1) ∙ (sym (drop-append-add b (bytesOf g image xs) (n * g .P)) ∙ ap (λ (k : ℕ). drop k (b ++ bytesOf g image xs)) (sym l))
 
-pub bytes-full : (g : Geometry) (image : List ℕ) → length image ≡ imageLength g → (xs : List Address) → Every (Legal g) xs
-    → length (bytesOf g image xs) ≡ length xs * g .P
-unfolding bytesOf
-bytes-full g image e [] h = omega arith
-bytes-full g image e (a ∷ xs) h =
-    length-append (bodyAt g image (ordinal g a)) (bytesOf g image xs) ∙ rw (body-full g image a e (h .0), bytes-full g image e xs (h .1)) (omega arith)
-
 -- so many records have so many bytes
 pub stream-long : (g : Geometry) (image : List ℕ) (c : Cursor) (m : ℕ) → m ≤ length (standing g image c) → Fits g image → legalAt g c ≡ true
     → m * g .P ≤ length (bytesOf g image (standing g image c))
 stream-long g image c m l f h =
     omega (arith, bytes-full g image (f .0) (standing g image c) (standing-legal g image c h), mul-le-mul-right (g .P) l)
-
--- a part of a part
-pub part-of : (k i n : ℕ) (s : List ℕ) → i + k ≤ n → take k (drop i (take n s)) ≡ take k (drop i s)
-part-of zero i n s l = refl
-part-of (suc k) i zero s l = absurd (omega arith)
-part-of (suc k) i (suc n) [] l = refl
-part-of (suc k) zero (suc n) (x ∷ s) l = ap (λ (t : List ℕ). x ∷ t) (part-of k 0 n s (omega arith))
-part-of (suc k) (suc i) (suc n) (x ∷ s) l = part-of (suc k) i n s (omega arith)
 
 from-run : (g : Geometry) (image : List ℕ) (left : ℕ) (a : Address) (i k : ℕ) → length image ≡ imageLength g → 0 < left → legalOn g left a ≡ true → i + k ≤ g .P
     → take k (drop i (bytesOf g image (standingFrom g image left a))) ≡ take k (drop (bodyOffset g (ordinal g a) + i) image)
@@ -94,7 +76,7 @@ from-run g image (suc n) a i k e p h l =
     ap (take k) (drop-append-le i b more (omega (arith, f)))
     ∙ (take-append-le k (drop i b) more (rw (length-drop i b) (omega (arith, f)))
     ∙ (ap (λ (s : List ℕ). take k (drop i s)) (body-is g image a y)
-    ∙ (part-of k i (g .P) (drop (bodyOffset g (ordinal g a)) image) l ∙ ap (take k) (drop-drop i (bodyOffset g (ordinal g a)) image))))
+    ∙ part-part image (bodyOffset g (ordinal g a)) i k (g .P) l))
 
 -- A RUN INSIDE A RECORD IS A PART OF THE IMAGE
 module _ (g : Geometry) (image : List ℕ) (c : Cursor) where
@@ -114,11 +96,6 @@ module _ (g : Geometry) (image : List ℕ) (c : Cursor) where
   pub stream-some : (i : ℕ) → 0 < length (stream g image c i) → 0 < c .left
   stream-some i h =
       either (lt-or-le 0 (c .left)) (λ (l : 0 < c .left). l) (λ (l : c .left ≤ 0). absurd (omega (arith, ap length (stream-none i l))))
-
-  -- what is left behind i bytes
-  pub stream-left : (i : ℕ) → length (stream g image c i) ≡ length (bytesOf g image (standing g image c)) - i
-  unfolding stream
-  stream-left i = length-drop i (bytesOf g image (standing g image c))
 
 -- bytes at the start of equal runs
 same-byte : (k j : ℕ) (s t : List ℕ) → j < k → take k s ≡ take k t → getD s j 0 ≡ getD t j 0

@@ -2,7 +2,7 @@
 -- Assumes nothing.
 use Prim.Native.Nat.{ℕ}
 use mathlib.Core.Path.{_≡_, refl, sym, ap, _∙_}
-use mathlib.Core.Bool.{Bool, true, false, cond, not, _&&_, _||_}
+use mathlib.Core.Bool.{Bool, true, false, cond, not, _&&_, _||_, and-true, and-false}
 use mathlib.Core.List.{List, [], _∷_, _++_}
 use lib.Dec.{ltb}
 use lib.ListN.{take, drop}
@@ -20,14 +20,6 @@ use Rattle.promises.specs.Basics.{and-l, and-r}
 use Rattle.checks.specs.Parts.{blankOr}
 
 -- tests joined
-and-no : (b : Bool) → (b && false) ≡ false
-and-no true = refl
-and-no false = refl
-
-and-yes : (b : Bool) → (b && true) ≡ b
-and-yes true = refl
-and-yes false = refl
-
 pub or-here : (a b : Bool) → a ≡ true → true ≡ (a || b)
 or-here a b e = rw e
 
@@ -60,10 +52,10 @@ module _ (h : List ℕ) where
       ∙ every-both aSet (field h 6 13) (field h 14 22)
 
   pub name-unspaced : spaces (field h 14 22) ≡ false → false ≡ (inASet (nameOf h) && spaces (field h 14 22))
-  name-unspaced n = rw n (sym (and-no (inASet (nameOf h))))
+  name-unspaced n = rw n (sym (and-false (inASet (nameOf h))))
 
   pub name-spaced : spaces (field h 14 22) ≡ true → inASet (field h 6 13) ≡ (inASet (nameOf h) && spaces (field h 14 22))
-  name-spaced n = rw (n, name-both, charted (field h 14 22) n) (sym (and-yes (inASet (field h 6 13) && true) ∙ and-yes (inASet (field h 6 13))))
+  name-spaced n = rw (n, name-both, charted (field h 14 22) n) (sym (and-true (inASet (field h 6 13) && true) ∙ and-true (inASet (field h 6 13))))
 
   pub name-short : (levelSpace h || levelOne h) ≡ true → (inASet (nameOf h) && spaces (field h 14 22)) ≡ rule6 h
   unfolding rule6
@@ -71,7 +63,7 @@ module _ (h : List ℕ) where
 
   pub name-long : (levelSpace h || levelOne h) ≡ false → inASet (nameOf h) ≡ rule6 h
   unfolding rule6
-  name-long t = rw t (sym (and-yes (inASet (nameOf h))))
+  name-long t = rw t (sym (and-true (inASet (nameOf h))))
 
 -- the end and the data end, where the start is right
 module _ (g : Geometry) (h : List ℕ) where

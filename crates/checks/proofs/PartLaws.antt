@@ -1,8 +1,8 @@
 -- The parts are the rules: of the numbers that the fields hold, and where the fields that a part reads are right.
 -- Assumes nothing.
 use Prim.Native.Nat.{ℕ}
-use mathlib.Core.Path.{_≡_, refl}
-use mathlib.Core.Bool.{Bool, true, false, not, _||_}
+use mathlib.Core.Path.{_≡_}
+use mathlib.Core.Bool.{Bool, true, false, _||_, Bool·not-not}
 use mathlib.Core.List.{List}
 use lib.Dec.{eqb}
 use Rattle.standard.specs.Characters.{at, field, spaces, digits}
@@ -11,10 +11,6 @@ use Rattle.standard.specs.declared.Geometry.{Geometry}
 use Rattle.checks.specs.declared.Seen.{Seen}
 use Rattle.checks.specs.Held.{Held}
 use Rattle.checks.specs.Parts.{isOther, formatRight, blockLeast, blockFits, blockedRight, recordFits, unusedFits}
-
-not-not : (b : Bool) → not (not b) ≡ b
-not-not true = refl
-not-not false = refl
 
 blocked-whole : (h : List ℕ) → rule40 h ≡ true → blockedRight (level h) (at h 40) (at h 63) ≡ rule63 h
 unfolding blockedRight rule63
@@ -61,7 +57,7 @@ module _ (g : Geometry) (h : List ℕ) where
   unused-whole : (spaces (field h 58 62) || digits (field h 58 62)) ≡ true → rule23 g h ≡ true → rule40 h ≡ true → rule54 g h ≡ true
       → unusedFits (at h 40) (rule63 h) (isBlocked h) (blockLength h) (recordLength h) (unusedCount h) ≡ rule58 g h
   unfolding unusedFits rule58
-  unused-whole d r23 r40 r54 = rw (d, r23, r40, r54, not-not (isBlocked h))
+  unused-whole d r23 r40 r54 = rw (d, r23, r40, r54, Bool·not-not (isBlocked h))
 
   module _ (x : Seen) (b R : ℕ) (t r : Bool) (w : Held g h x) (e : b ≡ at h 63) (k : t ≡ rule63 h) (l : R ≡ recordLength h) where
     pub record-is : (spaces (field h 54 57) || digits (field h 54 57)) ≡ true → r ≡ recordFits (x .level) (x .format) t (eqb b 66) (x .block) R → r ≡ rule54 g h

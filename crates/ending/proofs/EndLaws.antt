@@ -9,21 +9,18 @@ use native.Mathlib.Omega.{arith}
 use native.Mathlib.Nat.{le-div-iff-mul-le}
 use borrow.Author.Tests.{eq-eqb, ne-eqb, lt-ltb, le-ltb}
 use Rattle.standard.specs.Addresses.{firstAddress, stepped}
-use Rattle.standard.specs.Files.{isDefective, addressesFrom, goodAmong}
+use Rattle.standard.specs.Files.{addressesFrom}
 use Rattle.standard.specs.Writing.{nextDataEnd}
 use Rattle.standard.specs.declared.Geometry.{Geometry}
 use Rattle.standard.specs.declared.Address.{Address}
-use Rattle.promises.specs.Basics.{by-test}
+use Rattle.promises.specs.ExtentWhole.{from-length}
+use Rattle.promises.specs.Sizes.{good-few}
 use Rattle.extents.specs.Cursors.{goodFrom, standing}
 use Rattle.extents.specs.declared.Cursor.{Cursor}
 
 -- the good records of a row are no more than the row has
-pub good-few : (g : Geometry) (image : List ℕ) (left : ℕ) (a : Address) → length (goodFrom g image left a) ≤ left
-unfolding goodAmong addressesFrom
-good-few g image zero a = omega arith
-good-few g image (suc left) a =
-    let more = good-few g image left (stepped g a) in
-    by-test (isDefective g image a) (λ h. rw h (omega (arith, more))) (λ h. rw h (omega (arith, more)))
+pub good-most : (g : Geometry) (image : List ℕ) (left : ℕ) (a : Address) → length (goodFrom g image left a) ≤ left
+good-most g image left a = omega (arith, good-few g image (addressesFrom g left a), from-length g left a)
 
 -- the records of whole blocks that the good ones make
 pub blocks-inside : (n m count : ℕ) → 0 < m → n ≤ count / m → n * m ≤ count

@@ -5,7 +5,7 @@ use mathlib.Core.Path.{_≡_, refl, sym, ap, _∙_}
 use mathlib.Core.Bool.{Bool, true, false, cond}
 use mathlib.Core.List.{List, []}
 use lib.ListN.{length, drop}
-use lib.Seq.{drop-drop}
+use lib.Seq.{drop-drop, drop-nil}
 use lib.Dec.{eqb}
 use borrow.Author.Tests.{ne-eqb}
 use native.Mathlib.Omega.{arith}
@@ -53,15 +53,17 @@ module _ (g : Geometry) (image : List ℕ) (a : Address) where
   flaw-other h f = simp (h, ne-eqb (firstByte g image (ordinal g a)) 70 f)
 
 -- a cursor with an address left
-pub legal-head : (g : Geometry) (left : ℕ) (a : Address) → 0 < left → legalOn g left a ≡ true → legal g a ≡ true
+pub first-legal : (g : Geometry) (left : ℕ) (a : Address) → legalOn g (suc left) a ≡ true → (legal g a ≡ true) × (legalOn g left (stepped g a) ≡ true)
 unfolding legalOn
+first-legal g left a h = (and-l (legal g a) _ h, and-r (legal g a) _ h)
+
+pub legal-head : (g : Geometry) (left : ℕ) (a : Address) → 0 < left → legalOn g left a ≡ true → legal g a ≡ true
 legal-head g zero a l h = absurd (omega arith)
-legal-head g (suc n) a l h = and-l (legal g a) _ h
+legal-head g (suc n) a l h = first-legal g n a h .0
 
 pub legal-next : (g : Geometry) (left : ℕ) (a : Address) → 0 < left → legalOn g left a ≡ true → legalOn g (left - 1) (stepped g a) ≡ true
-unfolding legalOn
 legal-next g zero a l h = absurd (omega arith)
-legal-next g (suc n) a l h = simp unary-clauses (and-r (legal g a) _ h)
+legal-next g (suc n) a l h = simp unary-clauses (first-legal g n a h .1)
 
 pub good-skip : (g : Geometry) (image : List ℕ) (left : ℕ) (a : Address) → 0 < left → isDefective g image a ≡ true
     → goodFrom g image (left - 1) (stepped g a) ≡ goodFrom g image left a
@@ -106,14 +108,10 @@ unfolding goodAmong addressesFrom
 good-empty g image zero a l = refl
 good-empty g image (suc n) a l = absurd (omega arith)
 
-pub drop-none : {A : Type 0} (n : ℕ) → _≡_ {A = List A} (drop n []) []
-drop-none zero = refl
-drop-none (suc n) = refl
-
 pub drop-past : {A : Type 0} (i n : ℕ) (s : List A) → i ≤ n → drop i s ≡ [] → drop n s ≡ []
 drop-past i n s l e =
     let d : i + (n - i) ≡ n = omega arith in
-    sym (ap (λ (k : ℕ). drop k s) d) ∙ (sym (drop-drop (n - i) i s) ∙ (ap (drop (n - i)) e ∙ drop-none (n - i)))
+    sym (ap (λ (k : ℕ). drop k s) d) ∙ (sym (drop-drop (n - i) i s) ∙ (ap (drop (n - i)) e ∙ drop-nil (n - i)))
 
 pub legal-fewer : (g : Geometry) (n left : ℕ) (a : Address) → n ≤ left → legalOn g left a ≡ true → legalOn g n a ≡ true
 unfolding legalOn

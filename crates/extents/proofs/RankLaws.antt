@@ -5,26 +5,18 @@ use mathlib.Core.Path.{_≡_, refl, sym, ap, _∙_}
 use mathlib.Core.Bool.{true, false}
 use mathlib.Core.List.{List, [], _∷_}
 use lib.ListN.{length, drop, drop-of-length-le}
+use lib.Arith.{digits-div, digits-mod}
 use native.Mathlib.Omega.{arith}
-use native.Mathlib.Nat.{add-comm, add-mul-div-right, add-mul-mod-self-right, div-eq-of-lt, mod-eq-of-lt}
 use Rattle.standard.specs.Addresses.{legal, rank, stepped}
 use Rattle.standard.specs.Files.{addressesFrom, isDefective, goodAmong}
 use Rattle.standard.specs.declared.Geometry.{Geometry}
 use Rattle.standard.specs.declared.Address.{Address}
 use Rattle.promises.specs.AddressLaws.{parts, address-eq, step-rank}
-use Rattle.promises.specs.Basics.{by-test, and-l, and-r}
+use Rattle.promises.specs.Basics.{by-test}
+use Rattle.promises.specs.ExtentWhole.{from-length}
+use Rattle.promises.specs.Sizes.{good-few}
 use Rattle.extents.specs.Cursors.{legalOn, goodFrom, standing, addressOf}
-
--- x * d + y with y below d: x and y again
-quotient : (x y d : ℕ) → y < d → (x * d + y) / d ≡ x
-quotient x y d h =
-    ap (λ (n : ℕ). n / d) (add-comm (x * d) y) ∙ add-mul-div-right y x (omega (arith, h)) ∙ ap (λ (n : ℕ). n + x) (div-eq-of-lt h) ∙ plain x
-  where
-    plain : (n : ℕ) → 0 + n ≡ n
-    plain n = omega arith
-
-remainder : (x y d : ℕ) → y < d → (x * d + y) % d ≡ y
-remainder x y d h = ap (λ (n : ℕ). n % d) (add-comm (x * d) y) ∙ add-mul-mod-self-right y x d ∙ mod-eq-of-lt h
+use Rattle.extents.proofs.CursorLaws.{first-legal}
 
 pub address-back : (g : Geometry) (a : Address) → legal g a ≡ true → addressOf g (rank g a) ≡ a
 unfolding addressOf rank
@@ -34,11 +26,11 @@ address-back g a h =
     let t = c * g .S + a .side in
     let n = a .sector - 1 in
     let low : n < g .D = omega (arith, p .sector-low, p .sector-high) in
-    let q = quotient t n (g .D) low in
+    let q = digits-div t low in
     address-eq _ a
-    (ap (λ (x : ℕ). x / g .S + 1) q ∙ ap (λ (x : ℕ). x + 1) (quotient c (a .side) (g .S) (p .side-low)) ∙ back (a .cylinder) (p .cylinder-low))
-    (ap (λ (x : ℕ). x % g .S) q ∙ remainder c (a .side) (g .S) (p .side-low))
-    (ap (λ (x : ℕ). x + 1) (remainder t n (g .D) low) ∙ back (a .sector) (p .sector-low))
+    (ap (λ (x : ℕ). x / g .S + 1) q ∙ ap (λ (x : ℕ). x + 1) (digits-div c (p .side-low)) ∙ back (a .cylinder) (p .cylinder-low))
+    (ap (λ (x : ℕ). x % g .S) q ∙ digits-mod c (p .side-low))
+    (ap (λ (x : ℕ). x + 1) (digits-mod t low) ∙ back (a .sector) (p .sector-low))
   where
     back : (m : ℕ) → 1 ≤ m → m - 1 + 1 ≡ m
     back m h = omega arith
@@ -47,15 +39,6 @@ address-back g a h =
 pub record From (g : Geometry) (left : ℕ) (a : Address) (n : ℕ) : Type 0 where
   pub records : addressesFrom g (left - n) (addressOf g (rank g a + n)) ≡ drop n (addressesFrom g left a)
   pub right : legalOn g (left - n) (addressOf g (rank g a + n)) ≡ true
-
-first-legal : (g : Geometry) (left : ℕ) (a : Address) → legalOn g (suc left) a ≡ true → (legal g a ≡ true) × (legalOn g left (stepped g a) ≡ true)
-unfolding legalOn
-first-legal g left a h = (and-l (legal g a) _ h, and-r (legal g a) _ h)
-
-pub from-length : (g : Geometry) (left : ℕ) (a : Address) → length (addressesFrom g left a) ≡ left
-unfolding addressesFrom
-from-length g zero a = refl
-from-length g (suc left) a = ap suc (from-length g left (stepped g a))
 
 pub from-nth : (g : Geometry) (left : ℕ) (a : Address) (n : ℕ) → n < left → legalOn g left a ≡ true → From g left a n
 unfolding addressesFrom
@@ -86,12 +69,6 @@ pub sides-some : (g : Geometry) (a : Address) → legal g a ≡ true → (0 < g 
 sides-some g a h = let p = parts g a h in (omega (arith, p .sector-low, p .sector-high), omega (arith, p .side-low))
 
 -- Where every record is good, so is every one behind n others, and a cursor there stands on it.
-good-few : (g : Geometry) (image : List ℕ) (xs : List Address) → length (goodAmong g image xs) ≤ length xs
-unfolding goodAmong
-good-few g image [] = omega arith
-good-few g image (a ∷ xs) =
-    by-test (isDefective g image a) (λ h. rw h (omega (arith, good-few g image xs))) (λ h. rw h (omega (arith, good-few g image xs)))
-
 whole-rest : (g : Geometry) (image : List ℕ) (a : Address) (xs : List Address) → goodAmong g image (a ∷ xs) ≡ (a ∷ xs) → goodAmong g image xs ≡ xs
 unfolding goodAmong
 whole-rest g image a xs h =

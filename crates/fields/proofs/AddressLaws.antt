@@ -2,7 +2,7 @@
 -- Assumes nothing.
 use Prim.Native.Nat.{ℕ, _<_}
 use mathlib.Core.Path.{_≡_, refl}
-use mathlib.Core.Bool.{Bool, true, false, cond, _&&_, _||_}
+use mathlib.Core.Bool.{Bool, true, false, cond, _||_}
 use mathlib.Core.List.{List}
 use lib.ListN.{getD}
 use native.Mathlib.Omega.{arith}
@@ -11,7 +11,7 @@ use Rattle.standard.specs.Addresses.{fiveDigits, addressIn, fiveRead, legal, is
 use Rattle.standard.specs.declared.Geometry.{Geometry}
 use Rattle.standard.specs.declared.Address.{Address}
 use Rattle.standard.specs.declared.FiveDigits.the-variants.{NotDigits, Digits}
-use Rattle.fields.proofs.CharacterLaws.{and-left, and-right}
+use Rattle.promises.specs.Basics.{and-l, and-r}
 use Rattle.fields.proofs.LoopLaws.{digit-most}
 
 module _ (f : List ℕ) where
@@ -42,11 +42,11 @@ module _ (f : List ℕ) where
   small : fiveDigits f ≡ true → (addressIn f .cylinder < 3000) × (addressIn f .side < 256) × (addressIn f .sector < 3000)
   unfolding fiveDigits addressIn
   small h =
-      let d0 : isDigit (getD f 0 0) ≡ true = search (and-left, and-right) depth 9 in
-      let d1 : isDigit (getD f 1 0) ≡ true = search (and-left, and-right) depth 9 in
-      let d2 : isDigit (getD f 2 0) ≡ true = search (and-left, and-right) depth 9 in
-      let d3 : isDigit (getD f 3 0) ≡ true = search (and-left, and-right) depth 9 in
-      let d4 : isDigit (getD f 4 0) ≡ true = search (and-left, and-right) depth 9 in (
+      let d0 : isDigit (getD f 0 0) ≡ true = search (and-l, and-r) depth 9 in
+      let d1 : isDigit (getD f 1 0) ≡ true = search (and-l, and-r) depth 9 in
+      let d2 : isDigit (getD f 2 0) ≡ true = search (and-l, and-r) depth 9 in
+      let d3 : isDigit (getD f 3 0) ≡ true = search (and-l, and-r) depth 9 in
+      let d4 : isDigit (getD f 4 0) ≡ true = search (and-l, and-r) depth 9 in (
         omega (arith, digit-most (getD f 0 0) d0, digit-most (getD f 1 0) d1),
         omega (arith, digit-most (getD f 2 0) d2),
         omega (arith, digit-most (getD f 3 0) d3, digit-most (getD f 4 0) d4),

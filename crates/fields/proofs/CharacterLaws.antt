@@ -1,7 +1,7 @@
 -- The a-set is hex 20-5F but for seven characters: below, above, and in between by computation, character by character.
 -- Assumes nothing.
 use Prim.Native.Nat.{ℕ, zero, suc, _+_, _-_, _<_, _≤_}
-use mathlib.Core.Path.{_≡_, refl, sym, ap, subst, _∙_}
+use mathlib.Core.Path.{_≡_, refl, sym, subst}
 use mathlib.Core.Bool.{Bool, true, false, not, _&&_, _||_}
 use mathlib.Core.Logic.{⊎-elim}
 use lib.Dec.{eqb}
@@ -9,14 +9,7 @@ use native.Mathlib.Omega.{arith}
 use native.Mathlib.Nat.{eq-or-lt-of-le}
 use borrow.Author.Tests.{le-leb, lt-leb, ne-eqb}
 use Rattle.standard.specs.Characters.{aSet}
-
-pub and-left : (a b : Bool) → (a && b) ≡ true → a ≡ true
-and-left true b h = refl
-and-left false b h = h
-
-pub and-right : (a b : Bool) → (a && b) ≡ true → b ≡ true
-and-right true b h = h
-and-right false b h = cc
+use Rattle.promises.specs.Basics.{and-l, and-r}
 
 pub below-set : (c : ℕ) → c < 32 → false ≡ aSet c
 unfolding aSet
@@ -38,8 +31,8 @@ unfolding eachBelow
 each-below test zero k h l = absurd (omega arith)
 each-below test (suc n) k h l =
     ⊎-elim
-    (λ (e : suc k ≡ suc n). subst (λ (x : ℕ). test x ≡ true) (omega arith) (and-left (test n) _ h))
-    (λ (m : suc k < suc n). each-below test n k (and-right (test n) _ h) (omega arith))
+    (λ (e : suc k ≡ suc n). subst (λ (x : ℕ). test x ≡ true) (omega arith) (and-l (test n) _ h))
+    (λ (m : suc k < suc n). each-below test n k (and-r (test n) _ h) (omega arith))
     (eq-or-lt-of-le l)
 
 alike : Bool → Bool → Bool

@@ -3,7 +3,7 @@
 use Prim.Native.Nat.{ℕ, suc, _+_, _*_, _^_, _≤_, _<_}
 use mathlib.Core.Path.{_≡_, refl, ap}
 use mathlib.Core.List.{List, [], _∷_}
-use mathlib.Core.Bool.{Bool, true, false, not, _&&_}
+use mathlib.Core.Bool.{Bool, true, false, not, and-false}
 use native.Mathlib.Numerals.{add-one}
 use native.Mathlib.Omega.{arith}
 use native.Mathlib.Nat.{pow-suc, pow-le-pow-right}
@@ -11,8 +11,8 @@ use borrow.Author.Tests.{eq-eqb, ne-eqb, leb-true, not-true, not-false}
 use lib.Dec.{eqb, leb}
 use lib.ListN.{length, drop, getD, drop-of-length-le}
 use lib.Seq.{drop-cons}
-use Rattle.fields.proofs.CharacterLaws.{and-right}
 use Rattle.standard.specs.Characters.{every, same, isDigit, digitValue, numberFrom}
+use Rattle.promises.specs.Basics.{and-r}
 
 module _ (test : ℕ → Bool) (s : List ℕ) (i : ℕ) where
   pub every-more : i < length s → not (test (getD s i 0)) ≡ false → every test (drop i s) ≡ every test (drop (i + 1) s)
@@ -40,16 +40,12 @@ module _ (s w : List ℕ) (i : ℕ) where
   unfolding same
   same-end h k = rw (drop-of-length-le s h, drop-of-length-le w k)
 
-and-no : (b : Bool) → (b && false) ≡ false
-and-no true = refl
-and-no false = refl
-
 pub same-lengths : (s w : List ℕ) → (length s ≡ length w → ⊥) → same s w ≡ false
 unfolding same
 same-lengths [] [] n = search (n, refl)
 same-lengths [] (y ∷ w) n = refl
 same-lengths (x ∷ s) [] n = refl
-same-lengths (x ∷ s) (y ∷ w) n = simp (same-lengths s w (λ e. n (ap suc e))) (and-no (eqb x y))
+same-lengths (x ∷ s) (y ∷ w) n = simp (same-lengths s w (λ e. n (ap suc e))) (and-false (eqb x y))
 
 -- the number so far, and its bound
 module _ (f : List ℕ) (n i : ℕ) where
@@ -69,4 +65,4 @@ bound-more n d i h k = rw (add-one) (omega (arith, pow-suc 10 i))
 
 pub digit-most : (c : ℕ) → isDigit c ≡ true → digitValue c < 10
 unfolding isDigit digitValue
-digit-most c h = omega (arith, leb-true c 57 (and-right (leb 48 c) (leb c 57) h))
+digit-most c h = omega (arith, leb-true c 57 (and-r (leb 48 c) (leb c 57) h))

@@ -1,11 +1,11 @@
 -- A field of a known width is the list of its bytes, so the number that it spells is written out; and the small laws of the reckoning.
 -- Assumes nothing.
-use Prim.Native.Nat.{ℕ, zero, suc, _+_, _-_, _*_, _%_, _≤_}
-use mathlib.Core.Path.{_≡_, refl, sym, ap, _∙_}
-use mathlib.Core.Bool.{Bool, true, false, _&&_}
+use Prim.Native.Nat.{ℕ, zero, suc, _+_, _-_, _*_, _%_}
+use mathlib.Core.Path.{_≡_, sym, ap, _∙_}
+use mathlib.Core.Bool.{Bool, true, false, _&&_, and-true}
 use mathlib.Core.List.{List, [], _∷_}
 use native.Mathlib.Omega.{arith}
-use native.Mathlib.Nat.{mod-zero, mul-le-mul-left}
+use native.Mathlib.Nat.{mod-zero}
 use lib.ListN.{length, drop, getD, drop-of-length-le}
 use lib.Seq.{drop-cons}
 use Rattle.standard.specs.Characters.{between, every, spaces, digits, spacesOrNumber, number, numberFrom, digitValue, isDigit, hex, hexFrom, hexValue}
@@ -42,19 +42,15 @@ pub hex-2 : (f : List ℕ) (r : ℕ) → length f ≡ 2 → r ≡ hexValue (getD
 unfolding hexFrom
 hex-2 f r h e = omega (arith, e) ∙ sym (ap hex (bytes-of f 0 2 h))
 
-and-yes : (b : Bool) → (b && true) ≡ b
-and-yes true = refl
-and-yes false = refl
-
 -- the characters of such a field, one by one
 pub each-1 : (test : ℕ → Bool) (f : List ℕ) → length f ≡ 1 → test (getD f 0 0) ≡ every test f
 unfolding every
-each-1 test f h = sym (ap (every test) (bytes-of f 0 1 h) ∙ and-yes (test (getD f 0 0)))
+each-1 test f h = sym (ap (every test) (bytes-of f 0 1 h) ∙ and-true (test (getD f 0 0)))
 
 pub each-2 : (test : ℕ → Bool) (f : List ℕ) → length f ≡ 2 → (test (getD f 0 0) && test (getD f 1 0)) ≡ every test f
 unfolding every
 each-2 test f h =
-    sym (ap (every test) (bytes-of f 0 2 h) ∙ ap (λ (b : Bool). test (getD f 0 0) && b) (and-yes (test (getD f 1 0))))
+    sym (ap (every test) (bytes-of f 0 2 h) ∙ ap (λ (b : Bool). test (getD f 0 0) && b) (and-true (test (getD f 1 0))))
 
 pub hex-yes : (c r : ℕ) → isDigit c ≡ true → r ≡ digitValue c → r ≡ hexValue c
 unfolding hexValue
@@ -66,9 +62,6 @@ hex-not c r t e = simp t e
 
 pub rem-none : (a b : ℕ) → b ≡ 0 → a % b ≡ a
 rem-none a b e = rw e (mod-zero a)
-
-pub times-most : (a b m : ℕ) → b ≤ m → a * b ≤ a * m
-times-most a b m h = mul-le-mul-left a h
 
 -- the exits of `spaces_or_number`
 module _ (low high : ℕ) (f : List ℕ) where

@@ -4,35 +4,25 @@ use Prim.Native.Nat.{ℕ, _<_, _≤_}
 use mathlib.Core.Path.{_≡_}
 use mathlib.Core.Bool.{true}
 use mathlib.Core.List.{List}
-use lib.Dec.{ltb}
 use native.Mathlib.Omega.{arith}
-use native.Mathlib.Nat.{le-div-iff-mul-le}
-use borrow.Author.Tests.{ltb-true}
 use Rattle.standard.specs.Layout.{labelAt}
 use Rattle.standard.specs.Addresses.{legal, rank, addressCount}
-use Rattle.standard.specs.Labels.{knownLevel, blockLength, startOf, endOf, dataEndOf}
-use Rattle.standard.specs.Files.{extentSize, recordsToBlock}
+use Rattle.standard.specs.Labels.{knownLevel, startOf, endOf, dataEndOf}
+use Rattle.standard.specs.Files.{extentSize}
 use Rattle.standard.specs.Slots.{hasLabel}
 use Rattle.standard.specs.Judgement.{judged}
 use Rattle.standard.specs.declared.Geometry.{Geometry}
 use Rattle.standard.specs.declared.Judged.the-variants.{Volume}
-use Rattle.promises.specs.Basics.{by-test}
 use Rattle.promises.specs.AddressLaws.{rank-lt}
 use Rattle.promises.specs.AcceptedLaws.{label-faultless, label-in-range}
 use Rattle.promises.specs.LabelRules.{data-end-behind}
 use Rattle.promises.specs.VolumeNumbers.{numbers-of}
+use Rattle.promises.specs.FullBlocks.{records-one}
 use Rattle.volume.proofs.NumberLaws.{slotted-of}
 use Rattle.extents.specs.Cursors.{legalOn}
 use Rattle.files.specs.Numbers.{numbersOf}
 use Rattle.files.specs.declared.Numbers.{Numbers as Numbered}
 use Rattle.files.proofs.Blocks.{extent-on, size-most}
-
-records-some : (g : Geometry) (h : List ℕ) → 0 < g .P → 0 < recordsToBlock g h
-unfolding recordsToBlock
-records-some g h p =
-    by-test (ltb (g .P) (blockLength h))
-    (λ t. rw t (le-div-iff-mul-le p .1 (omega (arith, ltb-true (g .P) (blockLength h) t))))
-    (λ t. rw t (omega arith))
 
 size-few : (g : Geometry) (h : List ℕ) → legal g (endOf h) ≡ true → addressCount g < 65536 → extentSize g h < 4294967296
 unfolding extentSize
@@ -50,7 +40,7 @@ module _ (image : List ℕ) (g : Geometry) (slot : ℕ) (j : judged image ≡ Vo
       let h = labelAt g image slot in
       let r = label-in-range image g slot j l in
       rw e (
-        records-some g h (numbers-of image g j .size-low),
+        records-one g h (numbers-of image g j .size-low),
         size-most g image h r behind,
         size-few g h (r .end-legal) (slotted-of image g j .whole .addresses),
         extent-on g h r,

@@ -9,13 +9,13 @@ use lib.Dec.{ltb, eqb}
 use native.Mathlib.Omega.{arith}
 use native.Mathlib.Nat.{zero-mod, zero-div}
 use borrow.Author.Tests.{lt-ltb, le-ltb, leb-true, leb-false, eqb-true, ne-eqb}
-use Rattle.standard.specs.Addresses.{legal, rank, before, stepped}
+use Rattle.standard.specs.Addresses.{rank, before, stepped}
 use Rattle.standard.specs.Labels.{unusedCount, startOf, endOf, dataEndOf}
 use Rattle.standard.specs.Refusals.{given-when, inOrder}
 use Rattle.standard.specs.Files.{addressesFrom, extentSize, extent, isDefective, goodAmong, goodRecords, recordsToBlock, countBefore, goodBefore, dataEndAtStart, dataEndInExtent, blocksHeld, blockCount, refusal17, splitsBlock, refusal18, countOr}
 use Rattle.standard.specs.declared.Geometry.{Geometry}
 use Rattle.standard.specs.declared.Address.{Address}
-use Rattle.promises.specs.Basics.{either, lt-or-le, by-test, and-l, and-r}
+use Rattle.promises.specs.Basics.{either, lt-or-le, by-test}
 use Rattle.promises.specs.Lists.{Every}
 use Rattle.promises.specs.AddressLaws.{Legal, step-rank}
 use Rattle.promises.specs.AcceptedLaws.{InRange}
@@ -24,6 +24,7 @@ use Rattle.extents.specs.Cursors.{legalOn, goodFrom}
 use Rattle.extents.specs.Surveys.{surveyed}
 use Rattle.extents.specs.declared.Condition.{Condition}
 use Rattle.extents.specs.declared.Condition.the-variants.{Wrong, Whole, Holed}
+use Rattle.extents.proofs.CursorLaws.{first-legal, good-empty}
 use Rattle.extents.proofs.SurveyLaws.{Says, says}
 use Rattle.extents.proofs.RankLaws.{whole-front}
 use Rattle.files.specs.Numbers.{sizeBefore, numbersOf, endedBy, tallied}
@@ -41,24 +42,13 @@ extent-on g h r = on-legal g (extentSize g h) (startOf h) (extent-legal g h r)
 
 -- good records before an address of the extent: those of the addresses up to it
 module _ (g : Geometry) (image : List ℕ) (e : Address) where
-  on-head : (left : ℕ) (a : Address) → legalOn g (suc left) a ≡ true → legal g a ≡ true
-  unfolding legalOn
-  on-head left a h = and-l (legal g a) _ h
-
-  on-rest : (left : ℕ) (a : Address) → legalOn g (suc left) a ≡ true → legalOn g left (stepped g a) ≡ true
-  unfolding legalOn
-  on-rest left a h = and-r (legal g a) _ h
-
   none-before : (left : ℕ) (a : Address) → legalOn g left a ≡ true → rank g e ≤ rank g a → countBefore g e (goodFrom g image left a) ≡ 0
   unfolding addressesFrom goodAmong before
   none-before zero a h l = refl
   none-before (suc left) a h l =
-      let more = none-before left (stepped g a) (on-rest left a h) (omega (arith, step-rank g a (on-head left a h))) in
+      let f = first-legal g left a h in
+      let more = none-before left (stepped g a) (f .1) (omega (arith, step-rank g a (f .0))) in
       by-test (isDefective g image a) (λ d. rw d more) (λ d. rw (d, le-ltb (rank g a) (rank g e) l, more))
-
-  none-at : (n : ℕ) (a : Address) → n ≡ 0 → length (goodFrom g image n a) ≡ 0
-  unfolding addressesFrom goodAmong
-  none-at n a z = rw z
 
   one-more : (left n : ℕ) (a : Address) → rank g a < rank g e → countBefore g e (goodFrom g image left (stepped g a)) ≡ length (goodFrom g image n (stepped g a))
       → countBefore g e (goodFrom g image (suc left) a) ≡ length (goodFrom g image (suc n) a)
@@ -68,15 +58,16 @@ module _ (g : Geometry) (image : List ℕ) (e : Address) where
 
   pub count-before : (left : ℕ) (a : Address) → legalOn g left a ≡ true → rank g a ≤ rank g e → rank g e ≤ rank g a + left
       → countBefore g e (goodFrom g image left a) ≡ length (goodFrom g image (rank g e - rank g a) a)
-  count-before zero a h l m = none-before zero a h (omega (arith, m)) ∙ sym (none-at (rank g e - rank g a) a (omega arith))
+  count-before zero a h l m = none-before zero a h (omega (arith, m)) ∙ sym (good-empty g image (rank g e - rank g a) a (omega arith))
   count-before (suc left) a h l m =
+      let f = first-legal g left a h in
       either (lt-or-le (rank g a) (rank g e))
       (λ (k : rank g a < rank g e).
-      let s = step-rank g a (on-head left a h) in
+      let s = step-rank g a (f .0) in
       let n : rank g e - rank g a ≡ suc (rank g e - rank g (stepped g a)) = omega arith in
-      let i = count-before left (stepped g a) (on-rest left a h) (omega arith) (omega arith) in
+      let i = count-before left (stepped g a) (f .1) (omega arith) (omega arith) in
       one-more left (rank g e - rank g (stepped g a)) a k i ∙ ap (λ (j : ℕ). length (goodFrom g image j a)) (sym n))
-      (λ (k : rank g e ≤ rank g a). none-before (suc left) a h k ∙ sym (none-at (rank g e - rank g a) a (omega arith)))
+      (λ (k : rank g e ≤ rank g a). none-before (suc left) a h k ∙ sym (good-empty g image (rank g e - rank g a) a (omega arith)))
 
 -- THE NUMBER OF BLOCKS
 module _ (g : Geometry) (image h : List ℕ) where
@@ -127,7 +118,7 @@ module _ (g : Geometry) (image h : List ℕ) where
         good-before ∙ c ∙ ap (λ (n : ℕ). length (goodFrom g image n (startOf h))) (sym (size-inside t))
 
     none-good : dataEndInExtent g h ≡ true → dataEndAtStart g h ≡ true → goodOnes ≡ 0
-    none-good t z = none-at g image (dataEndOf h) (sizeBefore g h) (startOf h) (omega (arith, size-inside t, at-start z))
+    none-good t z = good-empty g image (sizeBefore g h) (startOf h) (omega (arith, size-inside t, at-start z))
 
     beyond-good : dataEndInExtent g h ≡ false → length (goodRecords g image h) ≡ goodOnes
     beyond-good t = good-all ∙ ap (λ (n : ℕ). length (goodFrom g image n (startOf h))) (sym (size-beyond t))

@@ -27,24 +27,11 @@ ghost use mathlib.Core.Bool.{true, false, cond};
 ghost use lib.Dec.{leb};
 ghost use Prim.Native.Nat.{_-_, _<_, _≤_};
 ghost use lib.ListN.{length};
-ghost use Rattle.standard.specs.Refusals.{refuse};
 ghost use Rattle.standard.specs.Judgement.{judged};
 ghost use Rattle.standard.specs.Files.{addressesFrom, recordsToBlock, countIn, counted};
 ghost use Rattle.extents.specs.Cursors.{legalOn};
 ghost use Rattle.extents.specs.Surveys.{surveyed};
 ghost use Rattle.files.specs.Numbers.{numbersOf, endedBy, tallied};
-
-// A refusal with one place.
-fn refused(number: u8, place: u64) -> Counted
-    ensures { λ r. ⌜ r ≡ Counted.Uncounted (refuse number place) ⌝ }
-{
-    Counted::Uncounted(Refusal {
-        number: number,
-        first: place,
-        second: 0,
-        third: 0,
-    })
-}
 
 // What a label says of its file, with what follows from it: m, "blocks take m good records in turn"; the extent, from `start` on `size` addresses; whether the
 // data end lies `inside` it; and how many addresses lie `before` the data end.
@@ -113,7 +100,7 @@ fn ended(n: Numbers, slot: u64, good: u64) -> Counted
     let blocks = good / m;
     let parted = n.inside & !(good % m == 0);
     if parted | ((0 < unused) & (blocks == 0)) {
-        return refused(18, slot);
+        return Counted::Uncounted(Refusal::at(18, slot));
     }
     Counted::Count(blocks)
 }
@@ -126,7 +113,7 @@ pub fn tally_by(g: Geometry, image: &[u8], n: Numbers, slot: u64, found: Conditi
 {
     let start = n.start;
     match found {
-        Condition::Wrong(ordinal) => refused(17, ordinal),
+        Condition::Wrong(ordinal) => Counted::Uncounted(Refusal::at(17, ordinal)),
         Condition::Whole => ended(n, slot, n.before),
         Condition::Holed => {
             let good = count_good(
@@ -165,11 +152,11 @@ pub fn count_in(g: Geometry, image: &[u8], slot: u64) -> Counted
     ensures { λ r. ⌜ r ≡ countIn g (now (image .entry)) slot ⌝ }
 {
     if !has_label(g, image, slot) {
-        return refused(13, 0);
+        return Counted::Uncounted(Refusal::at(13, 0));
     }
     let h = label_at(g, image, slot);
     if !known_level(h) {
-        return refused(14, slot);
+        return Counted::Uncounted(Refusal::at(14, slot));
     }
     tally(g, image, numbers_of(g, h), slot)
 }

@@ -60,9 +60,6 @@ lays-done g s p h =
     ∙ ap (λ (t : List ℕ). splice o t s) (take-nil k)
     ∙ splice-none o s
 
-pub lays-none : (g : Geometry) (s : List ℕ) (p : Pen) → Placed g s p → Lays g s p [] s p
-lays-none g s p h = (λ more. refl, h)
-
 pub lays-then : (g : Geometry) (s s′ s″ : List ℕ) (p p′ p″ : Pen) (xs ys : List ℕ) → Lays g s p xs s′ p′ → Lays g s′ p′ ys s″ p″ → Lays g s p (xs ++ ys) s″ p″
 lays-then g s s′ s″ p p′ p″ xs ys h k =
     (λ more. ap (laidBy g s p) (append-assoc xs ys more) ∙ h .0 (ys ++ more) ∙ k .0 more, k .1)

@@ -22,6 +22,7 @@ use Rattle.promises.specs.SectorLaws.{sector-from-bytes}
 use Rattle.promises.specs.ExtentReads.{SameSector, SameDefect, same-defect, same-good}
 use Rattle.extents.specs.Cursors.{legalOn, legalAt, standingFrom, standing}
 use Rattle.extents.specs.declared.Cursor.{Cursor}
+use Rattle.extents.proofs.CursorLaws.{first-legal}
 use Rattle.filling.specs.Poured.{Sized}
 
 -- legal addresses one behind the other do not fall
@@ -60,15 +61,11 @@ module _ (g : Geometry) (s : List ℕ) (sized : Sized g s) (a : Address) (la : l
       (sym (same-good g s (splice o x s) xs
       (every-map (λ b. (legal g b ≡ true) × (suc (rank g a) ≤ rank g b)) (SameDefect g s (splice o x s)) (λ b k. same-defect g s (splice o x s) (omega (arith, sized .1)) b (other-sector b k)) xs r)))
 
-first-legal : (g : Geometry) (left : ℕ) (a : Address) → legalOn g (suc left) a ≡ true → legal g a ≡ true
-unfolding legalOn
-first-legal g left a h = and-l (legal g a) _ h
-
 -- THE GOOD RECORDS FROM A CURSOR ON, when bytes are laid inside the record under it
 stands-from : (g : Geometry) (s : List ℕ) (left : ℕ) (a : Address) (o : ℕ) (x : List ℕ) → Sized g s → legalOn g left a ≡ true → 1 ≤ left
     → kindOffset g (ordinal g a) ≤ o → o + length x ≤ kindOffset g (ordinal g a) + (g .P + 1) → standingFrom g (splice o x s) left a ≡ standingFrom g s left a
 stands-from g s zero a o x z h l lo hi = absurd (omega arith)
-stands-from g s (suc left) a o x z h l lo hi = behind-same g s z a (first-legal g left a h) o x lo hi left h
+stands-from g s (suc left) a o x z h l lo hi = behind-same g s z a (first-legal g left a h .0) o x lo hi left h
 
 pub stands-same : (g : Geometry) (s : List ℕ) (c : Cursor) (o : ℕ) (x : List ℕ) → Sized g s → legalAt g c ≡ true → 1 ≤ c .left
     → kindOffset g (ordinal g (c .at)) ≤ o → o + length x ≤ kindOffset g (ordinal g (c .at)) + (g .P + 1) → standing g (splice o x s) c ≡ standing g s c

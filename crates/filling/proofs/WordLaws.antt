@@ -8,6 +8,7 @@ use native.Mathlib.Omega.{arith}
 use Rattle.standard.specs.Characters.{digitOf, padded}
 use Rattle.standard.specs.Writing.{splice}
 use Rattle.promises.specs.Splices.{splice-length}
+use Rattle.promises.specs.Digits.{padded-length}
 use Rattle.promises.specs.StoreLaws.{splice-join}
 use Rattle.filling.specs.Poured.{packed, wordS}
 use Rattle.filling.proofs.RunLaws.{set-splice, splice-more}
@@ -21,9 +22,6 @@ padded-four n =
     ap (λ (m : ℕ). digitOf m ∷ digitOf (n / 10 / 10) ∷ digitOf (n / 10) ∷ digitOf n ∷ []) thousand
     ∙ ap (λ (m : ℕ). digitOf (n / 1000) ∷ digitOf m ∷ digitOf (n / 10) ∷ digitOf n ∷ []) hundred
     ∙ ap (λ (m : ℕ). digitOf (n / 1000) ∷ digitOf (n / 100) ∷ digitOf (n / 10) ∷ digitOf m ∷ []) one
-
-pub padded-length : (n : ℕ) → length (padded 4 n) ≡ 4
-padded-length n = ap length (padded-four n)
 
 digits-are : (n a b c d : ℕ) → a ≡ digitOf (n / 1000) → b ≡ digitOf (n / 100) → c ≡ digitOf (n / 10) → d ≡ digitOf (n / 1) → (a ∷ b ∷ c ∷ d ∷ []) ≡ padded 4 n
 digits-are n a b c d ea eb ec ed = rw (ea, eb, ec, ed) (sym (padded-four n))
@@ -56,5 +54,5 @@ segment-laid k n o s t h e =
 
 pub segment-length : (k n o : ℕ) (s t : List ℕ) → o + 5 ≤ length s → t ≡ splice (o + 1) (padded 4 n) (set s o (48 + k)) → length t ≡ length s
 segment-length k n o s t h e =
-    let l = padded-length n in
+    let l = padded-length 4 n in
     ap length (segment-laid k n o s t h e) ∙ splice-length o (wordS k n) s (omega arith)

@@ -1,7 +1,7 @@
 -- The fields of a line as their parts in a row.
 -- Assumes nothing.
 use Prim.Native.Nat.{ℕ, _+_, _<_, _≤_}
-use mathlib.Core.Path.{_≡_, refl, sym, ap, subst, _∙_}
+use mathlib.Core.Path.{_≡_, refl, sym, ap, _∙_}
 use mathlib.Core.List.{List, [], _∷_, _++_}
 use lib.ListN.{length, getD, take, drop, length-take, drop-of-length-le}
 use lib.Seq.{drop-cons}
@@ -14,12 +14,7 @@ use Rattle.standard.specs.declared.Place.{Place}
 use Rattle.standard.specs.declared.Refusal.{Refusal}
 use Rattle.standard.specs.declared.Answer.{Answer}
 use Rattle.standard.specs.declared.Answer.the-variants.{Unanswered, Gap, End, Record as RecordOf}
-use Rattle.text.specs.Laid.{Puts}
 use Rattle.following.specs.Lines.{spaced, placeFields, pairOf, hexOf, bodyField, refusedFields, recordFields, answerFields, modeOf}
-
--- the same text, otherwise written
-pub puts-as : {out out′ : List ℕ} {at r : ℕ} {s t : List ℕ} → s ≡ t → Puts out out′ at r s → Puts out out′ at r t
-puts-as {out = out} {out′ = out′} {at = at} {r = r} e p = subst (λ (u : List ℕ). Puts out out′ at r u) e p
 
 -- byte after byte
 pub hex-more : (body : List ℕ) (i : ℕ) → i < length body → hexOf (drop i body) ≡ pairOf (getD body i 0) ++ hexOf (drop (i + 1) body)

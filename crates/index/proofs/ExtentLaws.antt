@@ -2,7 +2,7 @@
 -- Assumes nothing.
 use Prim.Native.Nat.{ℕ, zero, suc, _+_, _-_, _<_, _≤_}
 use mathlib.Core.Path.{_≡_, refl, sym, ap, subst, _∙_}
-use mathlib.Core.Bool.{Bool, true, false, cond, _&&_, _||_}
+use mathlib.Core.Bool.{Bool, true, false, cond, _&&_, _||_, and-false}
 use mathlib.Core.List.{List}
 use lib.ListN.{length, getD, set}
 use lib.Seq.{getD-set-same, getD-set-other}
@@ -27,10 +27,6 @@ use Rattle.index.specs.Extents.{startIn, endIn, extentIn, Known, meets}
 use Rattle.index.proofs.SlotLaws.{slot-passed}
 use Rattle.index.proofs.ClashLaws.{below-none}
 
-and-no : (b : Bool) → (b && false) ≡ false
-and-no true = refl
-and-no false = refl
-
 -- what the code reads of a slot
 module _ (g : Geometry) (image : List ℕ) (slot : ℕ) where
   pub extent-none : isLabel g image slot ≡ false → record { start = 4294967295; end = 0 } ≡ extentIn g image slot
@@ -46,7 +42,7 @@ module _ (g : Geometry) (image : List ℕ) (slot : ℕ) where
 tests-agree : (t u : Bool) (a b c d : ℕ) → (t ≡ true → b < 65536) → (u ≡ true → d < 65536)
     → (leb (cond t a 4294967295) (cond u d 0) && leb (cond u c 4294967295) (cond t b 0)) ≡ (t && u && (leb a d && leb c b))
 tests-agree true true a b c d hb hd = refl
-tests-agree true false a b c d hb hd = rw (lt-leb 4294967295 b (omega (arith, hb refl))) (and-no (leb a 0))
+tests-agree true false a b c d hb hd = rw (lt-leb 4294967295 b (omega (arith, hb refl))) (and-false (leb a 0))
 tests-agree false true a b c d hb hd = rw (lt-leb 4294967295 d (omega (arith, hd refl)))
 tests-agree false false a b c d hb hd = refl
 

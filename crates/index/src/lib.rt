@@ -17,7 +17,6 @@ ghost use mathlib.Core.Bool.{true, _&&_};
 ghost use Prim.Native.Nat.{_+_, _-_, _*_, _<_, _≤_};
 ghost use lib.ListN.{length, getD};
 ghost use lib.Dec.{leb};
-ghost use Rattle.standard.specs.Refusals.{refuse};
 ghost use Rattle.standard.specs.Layout.{kindAt, slotCount, slotOrdinal, labelAt};
 ghost use Rattle.standard.specs.Labels.{knownLevel, nameOf};
 ghost use Rattle.standard.specs.Slots.{isLabel, slotRefusal};
@@ -26,24 +25,6 @@ ghost use Rattle.layout.specs.Room.{Room};
 ghost use Rattle.index.specs.Whole.{Whole, Slotted};
 ghost use Rattle.index.specs.Extents.{extentIn, Known, meets};
 ghost use Rattle.index.specs.Names.{eightFrom, keyOf, keyIn, Keyed};
-
-// A refusal with one place.
-fn refused(number: u8, place: u64) -> Refusal
-    ensures { λ r. ⌜ r ≡ refuse number place ⌝ }
-{
-    Refusal {
-        number: number,
-        first: place,
-        second: 0,
-        third: 0,
-    }
-}
-
-fn stopped(number: u8, slot: u64) -> Checked
-    ensures { λ r. ⌜ r ≡ Checked.Stopped (refuse number slot) ⌝ }
-{
-    Checked::Stopped(refused(number, slot))
-}
 
 // A slot with the valid mark: 9 if it has no `HDR1`, which is position 1 of the table, and 10 for any other fault.
 fn label_refusal(g: Geometry, image: &[u8], slot: u64) -> Checked
@@ -55,14 +36,9 @@ fn label_refusal(g: Geometry, image: &[u8], slot: u64) -> Checked
         return Checked::Passed;
     }
     if fault == 1 {
-        return stopped(9, slot);
+        return Checked::Stopped(Refusal::at(9, slot));
     }
-    Checked::Stopped(Refusal {
-        number: 10,
-        first: slot,
-        second: fault,
-        third: 0,
-    })
+    Checked::Stopped(Refusal::within(10, slot, fault))
 }
 
 // A slot with the incorrect mark: deleted where the first byte is `D`, unreadable where it is `F`.
@@ -75,9 +51,9 @@ fn mark_refusal(g: Geometry, image: &[u8], slot: u64) -> Checked
         return Checked::Passed;
     }
     if c == 70 {
-        return stopped(8, slot);
+        return Checked::Stopped(Refusal::at(8, slot));
     }
-    stopped(9, slot)
+    Checked::Stopped(Refusal::at(9, slot))
 }
 
 // "slots checked one by one through 8, 9, 10": a slot. The label's rules are judged of a label alone.
@@ -93,9 +69,9 @@ fn slot_refusal(g: Geometry, image: &[u8], slot: u64) -> Checked
         return mark_refusal(g, image, slot);
     }
     if k == 32 {
-        return stopped(8, slot);
+        return Checked::Stopped(Refusal::at(8, slot));
     }
-    stopped(9, slot)
+    Checked::Stopped(Refusal::at(9, slot))
 }
 
 pub fn slots(g: Geometry, image: &[u8]) -> Checked
@@ -214,7 +190,7 @@ pub fn shared(g: Geometry, image: &[u8]) -> Checked
     while i < n {
         let x = extent_in(g, image, i + 1);
         if shares_below(g, image, i + 1, x, &starts, &ends) {
-            return stopped(11, i + 1);
+            return Checked::Stopped(Refusal::at(11, i + 1));
         }
         let at = i as usize;
         starts[at] = x.start;
@@ -292,7 +268,7 @@ pub fn named(g: Geometry, image: &[u8]) -> Checked
     while i < n {
         let key = name_key(label_at(g, image, i + 1));
         if named_below(g, image, i + 1, key, &keys) {
-            return stopped(12, i + 1);
+            return Checked::Stopped(Refusal::at(12, i + 1));
         }
         let at = i as usize;
         keys[at] = key;

@@ -4,8 +4,8 @@ use Prim.Native.Nat.{ℕ, zero, suc, _+_, _-_, _*_, _<_, _≤_}
 use mathlib.Core.Path.{_≡_, refl, sym, ap, _∙_}
 use mathlib.Core.Bool.{Bool, true, false, cond}
 use mathlib.Core.List.{List, [], _∷_, _++_, map, append-assoc}
-use lib.ListN.{length, length-replicate, take, drop, length-append, length-drop}
-use lib.Seq.{length-take-le, take-nil, drop-nil}
+use lib.ListN.{length, length-replicate, replicate-append-replicate, take, drop, length-append, length-drop}
+use lib.Seq.{take-nil, drop-nil}
 use lib.Dec.{leb}
 use native.Mathlib.Omega.{arith}
 use native.Mathlib.Nat.{not-suc-le-zero, sub-zero, mul-le-mul-right}
@@ -14,22 +14,14 @@ use Rattle.standard.specs.Labels.{fixed, variable, spanned}
 use Rattle.standard.specs.Packing.{Laid, then, thenNext, fill, placeIf, recordV, lay, layOne, segment, segmentRole, spreadIf, spread, least, startIf, layS, packIn}
 use Rattle.standard.specs.Writing.{filledTo}
 use Rattle.promises.specs.Lists.{Every}
-use Rattle.promises.specs.NeededLaws.{leastFor}
+use Rattle.promises.specs.NeededLaws.{least-for}
 use Rattle.promises.specs.WritingPromises.{joined}
-use Rattle.promises.specs.WritingLaws.{segment-length, recordV-length, least-of, least-five}
+use Rattle.promises.specs.WritingLaws.{segment-length, recordV-length, least-five, goes-on}
 use Rattle.filling.specs.Poured.{flat}
 use Rattle.filling.proofs.RunLaws.{take-over, drop-over}
 use Rattle.laying.specs.Ahead.{flatLaid, layFrom, fitsAs, chunked, chunks}
 
 -- ---- fill
-fill-add : (m n : ℕ) → fill m ++ fill n ≡ fill (m + n)
-fill-add zero n =
-    let z : 0 + n ≡ n = omega arith in
-    rw z
-fill-add (suc m) n =
-    let z : suc m + n ≡ suc (m + n) = omega arith in
-    rw z (ap (λ (s : List ℕ). 0 ∷ s) (fill-add m n))
-
 filled-behind : (size : ℕ) (x y : List ℕ) → filledTo size (x ++ y) ≡ x ++ filledTo (size - length x) y
 unfolding filledTo
 filled-behind size x y =
@@ -40,7 +32,7 @@ fill-filled : (size n : ℕ) → n ≤ size → filledTo size (fill n) ≡ fill 
 unfolding filledTo
 fill-filled size n h =
     let e : n + (size - length (fill n)) ≡ size = omega (arith, length-replicate {A = ℕ} n 0) in
-    fill-add n (size - length (fill n)) ∙ ap fill e
+    replicate-append-replicate n (size - length (fill n)) 0 ∙ ap fill e
 
 pub filled-by : (size n : ℕ) (x : List ℕ) → length x ≡ n → filledTo size x ≡ x ++ fill (size - n)
 unfolding filledTo
@@ -87,10 +79,6 @@ spread-here n size B room rest begun body more h =
     (flat-then size rest (segment (segmentRole begun true) body) (more (room - (5 + length body)))
     ∙ ap (λ (k : ℕ). segment (segmentRole begun true) body ++ flatLaid size (rest - k) (more (room - (5 + length body)))) (segment-length (segmentRole begun true) body))
 
-least-most : (x : List ℕ) → least x ≤ 6
-least-most [] = omega arith
-least-most (y ∷ x) = omega arith
-
 -- the bound on the number of blocks does not matter
 spread-enough : (k m B : ℕ) (begun : Bool) (room : ℕ) (body : List ℕ) (more : ℕ → Laid) → length body < k → length body < m → least body ≤ room → least body ≤ B
     → spread k B begun room body more ≡ spread m B begun room body more
@@ -106,11 +94,7 @@ spread-enough (suc k) (suc m) B begun room body more hk hm h hb =
         → spreadIf t begun room body more (λ rest. spread k B true B rest more) ≡ spreadIf t begun room body more (λ rest. spread m B true B rest more)
     go true q ih = refl
     go false q ih =
-        let long = leb-false (5 + length body) room q in
-        let five = least-five body in
-        let six = least-of body (omega arith) in
-        let d = length-drop (room - 5) body in
-        let most = least-most (drop (room - 5) body) in
+        let on = goes-on room body (leb-false (5 + length body) room q) h in
         ap (λ (l : Laid). thenNext (segment (segmentRole begun false) (take (room - 5) body)) l) (ih (omega arith) (omega arith) (omega arith) (omega arith))
 
 pub spread-on : (size B room rest : ℕ) (begun : Bool) (body : List ℕ) (more : ℕ → Laid) → room < 5 + length body → least body ≤ room → least body ≤ B → room ≤ rest
@@ -119,14 +103,11 @@ pub spread-on : (size B room rest : ℕ) (begun : Bool) (body : List ℕ) (more 
     ++ (fill (rest - room) ++ flatLaid size size (spread (suc (length (drop (room - 5) body))) B true B (drop (room - 5) body) more))
 unfolding spread
 spread-on size B room rest begun body more over-room h hb r =
-    let five = least-five body in
-    let six = least-of body (omega arith) in
-    let d = length-drop (room - 5) body in
-    let most = least-most (drop (room - 5) body) in
+    let on = goes-on room body over-room h in
     let x = drop (room - 5) body in
     let front = take (room - 5) body in
     let e : List ℕ = segment (segmentRole begun false) front in
-    let le : length e ≡ room = omega (arith, segment-length (segmentRole begun false) front, length-take-le (room - 5) body (omega arith)) in
+    let le : length e ≡ room = omega (arith, segment-length (segmentRole begun false) front, on .front) in
     let enough : spread (length body) B true B x more ≡ spread (suc (length x)) B true B x more =
     spread-enough (length body) (suc (length x)) B true B x more (omega arith) (omega arith) (omega arith) (omega arith) in
     let l : Laid = spread (length body) B true B x more in
@@ -216,10 +197,6 @@ no-records size f j B = sym (ap (λ (s : List ℕ). s ++ []) (filled-none 0))
 pub every-lengths : (C : ℕ → Type 0) (xs : List (List ℕ)) → Every C (map length xs) → Every (λ x. C (length x)) xs
 every-lengths C [] h = tt
 every-lengths C (x ∷ xs) h = (h .0, every-lengths C xs (h .1))
-
-pub least-for : (x : List ℕ) → least x ≡ leastFor (length x)
-least-for [] = refl
-least-for (y ∷ x) = refl
 
 -- V AND S: the packed blocks are what is laid from no block and no room on
 pub packed-V : (blocked : Bool) (size B : ℕ) (xs : List (List ℕ)) → B ≤ size → Every (fitsAs false B) (map length xs)

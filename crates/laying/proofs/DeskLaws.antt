@@ -1,6 +1,6 @@
 -- From what the pen laid to what the record is: the laws that the writer's functions cite.
 -- Assumes nothing.
-use Prim.Native.Nat.{ℕ, zero, suc, _+_, _-_, _<_, _≤_}
+use Prim.Native.Nat.{ℕ, suc, _+_, _-_, _<_, _≤_}
 use mathlib.Core.Path.{_≡_, refl, sym, ap, subst, _∙_}
 use mathlib.Core.Bool.{Bool, true, false, cond}
 use mathlib.Core.List.{List, [], _∷_, _++_, append-assoc, append-nil}
@@ -20,7 +20,7 @@ use Rattle.standard.specs.declared.Geometry.{Geometry}
 use Rattle.labels.specs.Forms.{formatFor}
 use Rattle.labels.specs.declared.Form.{Form}
 use Rattle.promises.specs.Lists.{Every}
-use Rattle.promises.specs.NeededLaws.{leastFor}
+use Rattle.promises.specs.NeededLaws.{leastFor, least-for}
 use Rattle.promises.specs.StoreLaws.{total-drop}
 use Rattle.promises.specs.WritingPromises.{parted-lengths, parted-joined}
 use Rattle.standard.specs.declared.Address.{Address}
@@ -34,7 +34,7 @@ use Rattle.filling.specs.declared.Pen.{Pen}
 use Rattle.laying.specs.Ahead.{flatLaid, layRecord, layFrom, fitsAs, chunks, Tiled, Shaped, Ready, HasRoom, Steps}
 use Rattle.laying.specs.declared.Shape.{Shape}
 use Rattle.laying.specs.declared.Desk.{Desk}
-use Rattle.laying.proofs.AheadLaws.{filled-none, filled-by, packed-F, packed-V, packed-S, chunks-next, chunks-none, every-lengths, place-step, start-step, spread-here, spread-on, least-for}
+use Rattle.laying.proofs.AheadLaws.{filled-none, filled-by, packed-F, packed-V, packed-S, chunks-next, chunks-none, every-lengths, place-step, start-step, spread-here, spread-on}
 
 -- two lots of bytes, and what follows
 module _ (g : Geometry) (i i₁ i₂ : List ℕ) (p p₁ p₂ : Pen) (xs ys : List ℕ) (h : Lays g i p xs i₁ p₁) (k : Lays g i₁ p₁ ys i₂ p₂) where
@@ -196,15 +196,6 @@ module _ (g : Geometry) (size B : ℕ) (bodies : List ℕ) where
         one-laid g i i₁ p p₁ (segment (segmentRole begun true) x ++ fill 0) h
         (flatLaid size rest (spread (suc n) B begun room x more)) (flatLaid size (rest - (5 + n)) (more (room - (5 + n)))) tail
         (two ∙ sym (append-assoc (segment (segmentRole begun true) x) (fill 0) _))
-
--- a segment that goes on takes a byte or more, and so does the next
-pub on-facts : (n room B : ℕ) → room < 5 + n → leastFor n ≤ room → leastFor n ≤ B → (6 ≤ room) × (6 ≤ B)
-on-facts zero room B o lo hi = absurd (omega (arith, o, lo))
-on-facts (suc n) room B o lo hi = (lo, hi)
-
-pub least-bounds : (n : ℕ) → (5 ≤ leastFor n) × (leastFor n ≤ 6)
-least-bounds zero = (omega arith, omega arith)
-least-bounds (suc n) = (omega arith, omega arith)
 
 -- control words
 pub variable-laid : (g : Geometry) (i i₁ i₂ : List ℕ) (p p₁ p₂ : Pen) (x : List ℕ) (n : ℕ) → length x ≡ n → Lays g i p (padded 4 (4 + n)) i₁ p₁ → Lays g i₁ p₁ (x ++ fill 0) i₂ p₂

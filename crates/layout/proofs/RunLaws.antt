@@ -6,7 +6,7 @@ use mathlib.Core.Bool.{Bool, true, false, not, cond}
 use mathlib.Core.List.{List}
 use lib.ListN.{length, getD}
 use native.Mathlib.Omega.{arith}
-use native.Mathlib.Nat.{mul-le-mul-right, div-eq-of-eq-mul-left}
+use native.Mathlib.Nat.{add-mul, mul-le-mul-right, div-eq-of-eq-mul-left}
 use borrow.Author.Tests.{not-true, not-false}
 use Rattle.standard.specs.Layout.{indexSectors, sectorCount, imageLength, kAt, kindOffset, kindAt, validMark, incorrectMark, checkFailed}
 use Rattle.standard.specs.Refusals.{refuse}
@@ -24,13 +24,10 @@ pub record Walk (image : List ℕ) (size k n first at : ℕ) : Type 0 where
   pub reach : at + left * size ≡ first + n * size
   pub same : legalRun image size k n first ≡ n - left + legalRun image size k left at
 
-share : (m l size : ℕ) → (m + l) * size ≡ m * size + l * size
-share m l size = omega arith
-
 one-turn : (left size : ℕ) → 0 < left → left * size ≡ size + (left - 1) * size
 one-turn left size h =
     let e : left ≡ 1 + (left - 1) = omega arith in
-    ap (λ (x : ℕ). x * size) e ∙ share 1 (left - 1) size ∙ ap (λ (x : ℕ). x + (left - 1) * size) (omega arith)
+    ap (λ (x : ℕ). x * size) e ∙ add-mul 1 (left - 1) size ∙ ap (λ (x : ℕ). x + (left - 1) * size) (omega arith)
 
 module _ (image : List ℕ) (size k : ℕ) where
   run-go : (left m at : ℕ) → left ≡ suc m → legalRun image size k left at ≡ cond (kindOf k (getD image at 0)) (suc (legalRun image size k m (at + size))) 0
@@ -54,7 +51,7 @@ module _ (image : List ℕ) (size k : ℕ) where
       passed : at ≡ first + (n - w .left) * size
       passed =
           let e : n ≡ (n - w .left) + w .left = omega (arith, w .few) in
-          omega (arith, w .reach, ap (λ (x : ℕ). x * size) e, share (n - w .left) (w .left) size)
+          omega (arith, w .reach, ap (λ (x : ℕ). x * size) e, add-mul (n - w .left) (w .left) size)
 
       pub walk-ends : 1 ≤ size → first + n * size ≤ at → at ≡ first + legalRun image size k n first * size
       walk-ends l h =

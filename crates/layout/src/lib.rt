@@ -16,7 +16,6 @@ ghost use lib.ListN.{length};
 ghost use Rattle.standard.specs.Layout.{indexSectors, kAt, kindOffset, imageLength, kindAt, firstByte, incorrectMark, checkFailed, indexKind, indexBody, slotCount, slotOrdinal, labelOffset, labelAt};
 ghost use Rattle.standard.specs.Defects.{skipOne, physical};
 ghost use Rattle.standard.specs.Addresses.{ordinal};
-ghost use Rattle.standard.specs.Refusals.{refuse};
 ghost use Rattle.standard.specs.Judgement.{refusal6};
 ghost use Rattle.layout.specs.Room.{Room};
 ghost use Rattle.layout.specs.Runs.{kindOf, legalRun};
@@ -231,23 +230,12 @@ pub fn kinds(g: Geometry, image: &[u8]) -> Checked
     let start = (n * 129) as usize;
     let i = legal_run(image, 0, 129, 0, n);
     if i < start {
-        return Checked::Stopped(no_kind((i / 129) as u64));
+        return Checked::Stopped(Refusal::at(6, (i / 129) as u64));
     }
     let size = (wide16(g.P) + 1) as usize;
     let j = legal_run(image, start, size, wide(g.k), later_sectors(g));
     if j < image.len() {
-        return Checked::Stopped(no_kind(n + ((j - start) / size) as u64));
+        return Checked::Stopped(Refusal::at(6, n + ((j - start) / size) as u64));
     }
     Checked::Passed
-}
-
-fn no_kind(ordinal: u64) -> Refusal
-    ensures { λ r. ⌜ r ≡ refuse 6 ordinal ⌝ }
-{
-    Refusal {
-        number: 6,
-        first: ordinal,
-        second: 0,
-        third: 0,
-    }
 }

@@ -1,14 +1,14 @@
 -- The lines as their parts in a row.
 -- Assumes nothing.
 use Prim.Native.Nat.{ℕ, suc, _+_, _-_, _<_, _≤_}
-use mathlib.Core.Path.{_≡_, refl, sym, ap, subst, _∙_}
+use mathlib.Core.Path.{_≡_, ap, _∙_}
 use mathlib.Core.Bool.{true, false}
 use mathlib.Core.List.{List, [], _∷_, _++_, append-assoc}
 use lib.ListN.{length}
 use lib.Dec.{ltb, eqb}
 use borrow.Author.Tests.{lt-ltb, le-ltb, ltb-false}
 use native.Mathlib.Omega.{arith}
-use Rattle.standard.specs.Characters.{bytes, byte, shown}
+use Rattle.standard.specs.Characters.{bytes, shown}
 use Rattle.standard.specs.Addresses.{fiveBytes}
 use Rattle.standard.specs.Layout.{vol1Of, slotCount, labelAt}
 use Rattle.standard.specs.Volume.{volumeName}
@@ -22,12 +22,7 @@ use Rattle.standard.specs.declared.Judged.the-variants.{Refused, Volume}
 use Rattle.promises.specs.Judging.{accepted, not-given}
 use Rattle.standard.specs.declared.Geometry.{Geometry}
 use Rattle.standard.specs.declared.Refusal.{Refusal}
-use Rattle.text.specs.Laid.{Puts}
 use Rattle.lines.specs.Parts.{numbersShown, firstFields, lengthFields, extentFields, lastFields, fieldsInARow, lineIn}
-
--- the same text, otherwise written
-pub puts-as : {out out′ : List ℕ} {at r : ℕ} {s t : List ℕ} → s ≡ t → Puts out out′ at r s → Puts out out′ at r t
-puts-as {out = out} {out′ = out′} {at = at} {r = r} e p = subst (λ (u : List ℕ). Puts out out′ at r u) e p
 
 -- fields and bars in a row, however they are grouped
 in-a-row : (s n : List ℕ) (l f b : ℕ) (B R st en co u e : List ℕ)

@@ -3,7 +3,7 @@
 use Prim.Native.Nat.{ℕ}
 use mathlib.Core.Path.{_≡_, refl, sym, ap, _∙_}
 use mathlib.Core.Bool.{Bool, true, false, not}
-use mathlib.Core.List.{List, [], _∷_, _++_}
+use mathlib.Core.List.{List, [], _∷_}
 use borrow.Author.Tests.{not-false}
 use Rattle.standard.specs.Characters.{at, isSpace}
 use Rattle.standard.specs.Refusals.{refuse, given-when, inOrder, orElse}
@@ -20,7 +20,7 @@ use Rattle.standard.specs.declared.Judged.the-variants.{Volume}
 use Rattle.standard.specs.declared.Counted.{Counted}
 use Rattle.standard.specs.declared.Counted.the-variants.{Uncounted, Count}
 use Rattle.promises.specs.Basics.{never}
-use Rattle.promises.specs.Judging.{order-each, not-given}
+use Rattle.promises.specs.Judging.{order-each, order-append, not-given}
 use Rattle.promises.specs.AcceptedLaws.{label-in-range}
 use Rattle.labels.specs.Forms.{formIn}
 use Rattle.labels.specs.declared.Form.{Form}
@@ -32,13 +32,6 @@ use Rattle.files.proofs.Accepted.{behind}
 use Rattle.opening.specs.Opened.{isWhole, usableIn, fileNumbers, openOr, openingIn}
 use Rattle.opening.specs.declared.FileNumbers.{FileNumbers}
 use Rattle.opening.specs.declared.Opening.the-variants.{Shut, Open}
-
--- the first refusal of a list that goes on in another
-pub order-append : (xs ys : List Checked) → inOrder (xs ++ ys) ≡ orElse (inOrder xs) (inOrder ys)
-unfolding inOrder orElse
-order-append [] ys = refl
-order-append (Passed ∷ xs) ys = order-append xs ys
-order-append (Stopped r ∷ xs) ys = refl
 
 -- a test of what a call answered, said of what the call is about
 pub told : (x y t : Bool) → x ≡ y → not x ≡ t → not y ≡ t

@@ -2,16 +2,16 @@
 -- Assumes nothing.
 use Prim.Native.Nat.{ℕ, zero, suc, _+_, _-_, _*_, _^_, _<_, _≤_}
 use mathlib.Core.Path.{_≡_, refl, sym, ap, subst, _∙_}
-use mathlib.Core.Bool.{Bool, true, false, cond, not, _&&_, _||_}
+use mathlib.Core.Bool.{Bool, true, false, cond, _&&_, _||_}
 use mathlib.Core.List.{List, [], _∷_}
-use lib.ListN.{length, getD, take, drop, length-take, length-drop}
+use lib.ListN.{length, getD, drop, length-drop}
 use lib.Dec.{leb, ltb, eqb}
 use native.Mathlib.Omega.{arith}
-use native.Mathlib.Nat.{mul-le-mul-right, mul-le-mul-left, div-le-self, one-le-pow, pow-succ'}
-use borrow.Author.Tests.{ltb-true, leb-true, eqb-true, eqb-false}
-use Rattle.standard.specs.Characters.{field, every, spaces, isDigit, digits, digitValue, numberFrom, aSet}
+use native.Mathlib.Nat.{mul-le-mul-right, mul-le-mul-left, one-le-pow, pow-succ'}
+use borrow.Author.Tests.{ltb-true, eqb-true, eqb-false}
+use Rattle.standard.specs.Characters.{field, every, spaces, isDigit, digits, digitValue, numberFrom}
 use Rattle.standard.specs.Layout.{labelAt, imageLength}
-use Rattle.standard.specs.Labels.{Format, level, knownLevel, anotherLevel, formatOf, isBlocked, blockLength, recordLength, unusedCount, startOf, endOf, rule23, rule54, rule58, hdr1Rules, labelFault}
+use Rattle.standard.specs.Labels.{Format, formatOf, isBlocked, blockLength, recordLength, unusedCount, startOf, endOf, rule54}
 use Rattle.standard.specs.Slots.{hasLabel}
 use Rattle.standard.specs.Pieces.{held, sizeOf}
 use Rattle.standard.specs.Files.{addressesFrom, extentSize, extent, goodRecords, recordsToBlock, blockCount, contentSize, blocksFrom, fileIn, openRefusal}
@@ -24,17 +24,17 @@ use Rattle.standard.specs.declared.Refusal.{Refusal}
 use Rattle.standard.specs.declared.Checked.{Checked}
 use Rattle.standard.specs.declared.Checked.the-variants.{Passed, Stopped}
 use Rattle.standard.specs.declared.Judged.the-variants.{Volume}
-use Rattle.promises.specs.Basics.{either, lt-or-le, by-test, and-l, and-r, applies, or-rest, never, cond-elim}
-use Rattle.promises.specs.Lists.{Every, every-drop}
+use Rattle.promises.specs.Basics.{either, lt-or-le, by-test, and-l, and-r, never}
+use Rattle.promises.specs.Lists.{Every, every-drop, take-short}
 use Rattle.promises.specs.AddressLaws.{Legal, rank-lt}
-use Rattle.promises.specs.Judging.{rows-each}
-use Rattle.promises.specs.AcceptedLaws.{image-length, label-faultless, label-in-range}
-use Rattle.promises.specs.LabelRules.{Rules, rules, Shape, isF, isV, isS, shape, blocks-most, fixed-low}
+use Rattle.promises.specs.AcceptedLaws.{image-length, label-in-range}
+use Rattle.promises.specs.LabelRules.{Rules, Shape, isF, isV, isS, shape, unused-below, fixed-low}
 use Rattle.promises.specs.VolumeNumbers.{numbers-of}
 use Rattle.promises.specs.ExtentAddresses.{good-legal}
-use Rattle.promises.specs.FullBlocks.{count-held, open-label, open-level, content-fits, SoundFile, sound-file, block-size}
+use Rattle.promises.specs.FullBlocks.{count-held, open-label, open-rules, block-low, records-one, records-few, content-fits, SoundFile, sound-file, block-size}
 use Rattle.promises.specs.SalvageImage.{file-count}
-use Rattle.promises.specs.Sizes.{addresses-few, blocks-few, records-one}
+use Rattle.promises.specs.Sizes.{addresses-few, blocks-few}
+use Rattle.fields.proofs.LoopLaws.{digit-most}
 use Rattle.labels.specs.Forms.{formIn, formatFor, format-back}
 use Rattle.labels.specs.declared.Form.the-variants.{Fixed}
 use Rattle.extents.specs.Cursors.{legalAt, goodFrom}
@@ -49,10 +49,6 @@ use Rattle.opening.specs.declared.Opening.{Opening}
 use Rattle.opening.specs.declared.Opening.the-variants.{Shut, Open}
 
 -- a number of at most k digits
-digit-low : (c : ℕ) → isDigit c ≡ true → digitValue c ≤ 9
-unfolding isDigit digitValue
-digit-low c h = omega (arith, leb-true c 57 (and-r (leb 48 c) _ h))
-
 number-small : (n k : ℕ) (f : List ℕ) → digits f ≡ true → length f ≤ k → numberFrom n f < (n + 1) * 10 ^ k
 unfolding numberFrom every
 number-small n k [] h l = omega (arith, mul-le-mul-left (n + 1) (one-le-pow k 10 (omega arith)))
@@ -60,14 +56,11 @@ number-small n zero (c ∷ f) h l = absurd (omega arith)
 number-small n (suc k) (c ∷ f) h l =
     let v = n * 10 + digitValue c in
     let more = number-small v k f (and-r (isDigit c) _ h) (omega arith) in
-    let most : v + 1 ≤ (n + 1) * 10 = omega (arith, digit-low c (and-l (isDigit c) _ h)) in
+    let most : v + 1 ≤ (n + 1) * 10 = omega (arith, digit-most c (and-l (isDigit c) _ h)) in
     rw (pow-succ' 10 k) (omega (arith, more, mul-le-mul-right (10 ^ k) most))
 
-field-short : (n : ℕ) (f : List ℕ) → length (take n f) ≤ n
-field-short n f = simp length-take (omega arith)
-
 -- "54-57 record length R; spaces mean R = B."
-record-small : (g : Geometry) (h : List ℕ) → Rules g h → blockLength h < 65536 → recordLength h < 10000000
+record-small : (g : Geometry) (h : List ℕ) → Rules g h → blockLength h ≤ 26624 → recordLength h < 10000000
 unfolding rule54 recordLength
 record-small g h r b =
     let q = r .r54 in
@@ -76,24 +69,7 @@ record-small g h r b =
     (λ s. rw s (omega arith))
     (λ s.
     let d : digits (field h 54 57) ≡ true = rw s at e in
-    rw s (omega (arith, number-small 0 4 (field h 54 57) d (field-short 4 (drop 53 h)))))
-
--- "58-62 unused count U, spaces meaning 0, below B"
-no-other : (h : List ℕ) → knownLevel h ≡ true → anotherLevel h ≡ false
-unfolding anotherLevel
-no-other h e = by-test (aSet (level h)) (λ a. rw (a, e)) (λ a. rw a)
-
-unused-below : (g : Geometry) (h : List ℕ) → labelFault g h ≡ 0 → knownLevel h ≡ true → rule23 g h ≡ true → unusedCount h < blockLength h
-unfolding labelFault hdr1Rules rule58
-unused-below g h z kn r =
-    let (r1, (r6, (r23, (r29, (r35, (r40, (r41, (r42, (r43, (r44, (r45, (r46, (r48, (r54, (r58, _))))))))))))))) = rows-each _ z refl in
-    let q = or-rest (anotherLevel h) _ (no-other h kn) r58 in
-    let e : (not (rule23 g h) || ltb (unusedCount h) (blockLength h)) ≡ true = search (and-l, and-r) depth 9 in
-    ltb-true (unusedCount h) (blockLength h) (applies (rule23 g h) _ r e)
-
-records-few : (g : Geometry) (h : List ℕ) → blockLength h < 65536 → recordsToBlock g h ≤ 9999999
-unfolding recordsToBlock
-records-few g h b = cond-elim (λ n. n ≤ 9999999) (ltb (g .P) (blockLength h)) (λ _. omega (arith, div-le-self (blockLength h) (g .P))) (λ _. omega arith)
+    rw s (omega (arith, number-small 0 4 (field h 54 57) d (take-short 4 (drop 53 h)))))
 
 pub whole-only : (k : Condition) → isWhole k ≡ true → k ≡ Whole
 whole-only (Wrong o) e = never (cc)
@@ -143,12 +119,10 @@ module _ (image : List ℕ) (g : Geometry) (slot : ℕ) (j : judged image ≡ Vo
   there = open-label g image slot ok
 
   theRules : Rules g theLabel
-  theRules = rules g theLabel (label-faultless image g slot j there) (open-level g image slot ok)
+  theRules = open-rules image g slot j ok
 
-  block-low : blockLength theLabel < 65536
-  block-low =
-      let n = numbers-of image g j in
-      omega (arith, blocks-most g theLabel theRules, mul-le-mul-right (g .P) (n .sectors), n .size-high)
+  low : blockLength theLabel ≤ 26624
+  low = block-low g theLabel (numbers-of image g j) theRules
 
   extent-few : extentSize g theLabel ≤ 4992
   unfolding extentSize
@@ -173,12 +147,12 @@ module _ (image : List ℕ) (g : Geometry) (slot : ℕ) (j : judged image ≡ Vo
         P-low = n .size-low;
         P-high = n .size-high;
         m-low = records-one g theLabel (n .size-low);
-        m-high = records-few g theLabel block-low;
+        m-high = omega (arith, records-few g theLabel low);
         fits = s .fits;
-        B-low = block-low;
-        U-low = omega (arith, unused-below g theLabel (label-faultless image g slot j there) (open-level g image slot ok) (theRules .r23));
+        B-low = omega (arith, low);
+        U-low = omega (arith, unused-below g theLabel theRules);
         count-few = blocks-few image g j slot there;
-        R-low = record-small g theLabel theRules block-low;
+        R-low = record-small g theLabel theRules low;
         fixed-some = fixed-label g theLabel theRules;
         format = format-back (formatOf theLabel);
         m-is = refl;
@@ -288,13 +262,19 @@ numbers-opened : (image : List ℕ) (g : Geometry) (slot : ℕ) → judged image
 unfolding fileNumbers
 numbers-opened image g slot j ok = (j, ok, refl)
 
-pub opened-of : (image : List ℕ) (g : Geometry) (slot : ℕ) (f : FileNumbers) → judged image ≡ Volume g → openingIn g image slot ≡ Open f → Opened image f
+pub open-is : (image : List ℕ) (g : Geometry) (slot : ℕ) (f : FileNumbers) → openingIn g image slot ≡ Open f
+    → (openRefusal g image slot ≡ Passed) × (f ≡ fileNumbers g image slot)
 unfolding openingIn
-opened-of image g slot f j e = go (openRefusal g image slot) refl e
+open-is image g slot f e = go (openRefusal g image slot) refl e
   where
-    go : (c : Checked) → openRefusal g image slot ≡ c → openOr c (fileNumbers g image slot) ≡ Open f → Opened image f
-    go Passed k e = subst (Opened image) (ap (λ (x : Opening). numbersIn x f) e) (numbers-opened image g slot j k)
+    go : (c : Checked) → openRefusal g image slot ≡ c → openOr c (fileNumbers g image slot) ≡ Open f → (openRefusal g image slot ≡ Passed) × (f ≡ fileNumbers g image slot)
+    go Passed k e = (k, ap (λ (x : Opening). numbersIn x f) (sym e))
     go (Stopped r) k e = never (cc)
+
+pub opened-of : (image : List ℕ) (g : Geometry) (slot : ℕ) (f : FileNumbers) → judged image ≡ Volume g → openingIn g image slot ≡ Open f → Opened image f
+opened-of image g slot f j e =
+    let o = open-is image g slot f e in
+    subst (Opened image) (sym (o .1)) (numbers-opened image g slot j (o .0))
 
 pub shut-of : (image : List ℕ) (g : Geometry) (slot : ℕ) (r : Refusal) → openingIn g image slot ≡ Shut r → openRefusal g image slot ≡ Stopped r
 unfolding openingIn

@@ -25,7 +25,7 @@ ghost use mathlib.Core.Bool.{true};
 ghost use mathlib.Core.List.{[], _∷_};
 ghost use Prim.Native.Nat.{_+_, _<_, _≤_};
 ghost use lib.ListN.{length};
-ghost use Rattle.standard.specs.Refusals.{refuse, inOrder};
+ghost use Rattle.standard.specs.Refusals.{inOrder};
 ghost use Rattle.standard.specs.Layout.{labelAt};
 ghost use Rattle.standard.specs.Labels.{knownLevel};
 ghost use Rattle.standard.specs.Slots.{hasLabel};
@@ -57,35 +57,23 @@ pub enum Opening {
     Open(FileNumbers),
 }
 
-// A refusal with one place.
-fn stopped(number: u8, place: u64) -> Checked
-    ensures { λ r. ⌜ r ≡ Checked.Stopped (refuse number place) ⌝ }
-{
-    Checked::Stopped(Refusal {
-        number: number,
-        first: place,
-        second: 0,
-        third: 0,
-    })
-}
-
 // Refusals 13 to 16: what both reading and writing ask of a slot first.
 pub fn usable(g: Geometry, image: &[u8], slot: u64) -> Checked
     requires { ⌜ judged (now image) ≡ Judged.Volume g ⌝ }
     ensures { λ r. ⌜ r ≡ usableIn g (now (image .entry)) slot ⌝ }
 {
     if !has_label(g, image, slot) {
-        return stopped(13, 0);
+        return Checked::Stopped(Refusal::at(13, 0));
     }
     let h = label_at(g, image, slot);
     if !known_level(h) {
-        return stopped(14, slot);
+        return Checked::Stopped(Refusal::at(14, slot));
     }
     if !(wide(h[41]) == 32) {
-        return stopped(15, slot);
+        return Checked::Stopped(Refusal::at(15, slot));
     }
     if !(wide(h[44]) == 32) {
-        return stopped(16, slot);
+        return Checked::Stopped(Refusal::at(16, slot));
     }
     Checked::Passed
 }

@@ -15,8 +15,9 @@ use Rattle.standard.specs.Writing.{nextDataEnd}
 use Rattle.standard.specs.declared.Geometry.{Geometry}
 use Rattle.standard.specs.declared.Address.{Address}
 use Rattle.promises.specs.Basics.{either, lt-or-le, or-right}
+use Rattle.promises.specs.Lists.{every-at}
 use Rattle.promises.specs.AddressLaws.{Parts, parts, from-parts, Step, sector-on, side-on, cylinder-on, step-is, step-rank, step-parts}
-use Rattle.promises.specs.ExtentAddresses.{Rising, Between, rising-lower}
+use Rattle.promises.specs.ExtentAddresses.{Rising, Between, rising-every}
 
 module _ (g : Geometry) where
   -- an address, or the one past the last
@@ -52,10 +53,7 @@ module _ (g : Geometry) where
 
   -- counting the records before one of them
   rising-at : (lo hi : ℕ) (xs : List Address) → Rising g lo hi xs → (k : ℕ) → k < length xs → (d : Address) → Between g lo hi (getD xs k d)
-  rising-at lo hi [] r k l d = absurd (not-suc-le-zero l)
-  rising-at lo hi (a ∷ xs) r zero l d = (r .0, r .1, r .2)
-  rising-at lo hi (a ∷ xs) r (suc k) l d =
-      rising-at lo hi xs (rising-lower g (suc (rank g a)) lo hi xs (omega (arith, r .1)) (r .3)) k (omega arith) d
+  rising-at lo hi xs r k l d = every-at (Between g lo hi) xs (rising-every g lo hi xs r) k l d
 
   none-before : (e : Address) (lo hi : ℕ) (xs : List Address) → Rising g lo hi xs → rank g e ≤ lo → countBefore g e xs ≡ 0
   unfolding before

@@ -1,9 +1,10 @@
 -- Numbers and addresses written in digits are read back.
 -- Assumes nothing.
-use Prim.Native.Nat.{ℕ, _+_, _-_, _*_, _/_, _%_, _<_}
+use Prim.Native.Nat.{ℕ, zero, suc, _+_, _-_, _*_, _/_, _%_, _<_}
 use mathlib.Core.Path.{_≡_, refl, sym, _∙_}
 use mathlib.Core.Bool.{Bool, true, false, cond, _||_}
-use lib.ListN.{length}
+use mathlib.Core.List.{[], _∷_}
+use lib.ListN.{length, length-append}
 use lib.Dec.{eqb}
 use native.Mathlib.Omega.{arith}
 use borrow.Author.Tests.{le-leb, ne-eqb, eqb-true}
@@ -17,9 +18,10 @@ pub digit-is : (n : ℕ) → isDigit (digitOf n) ≡ true
 unfolding isDigit
 digit-is n = rw (le-leb 48 (48 + n % 10) (omega arith), le-leb (48 + n % 10) 57 (omega arith))
 
-pub padded-length : (n : ℕ) → length (padded 5 n) ≡ 5
+pub padded-length : (width n : ℕ) → length (padded width n) ≡ width
 unfolding padded
-padded-length n = refl
+padded-length zero n = refl
+padded-length (suc width) n = length-append (padded width (n / 10)) (digitOf n ∷ []) ∙ omega (arith, padded-length width (n / 10))
 
 pub padded-digits : (n : ℕ) → digits (padded 5 n) ≡ true
 unfolding padded every
@@ -58,7 +60,7 @@ unused-length U = go (eqb U 0)
   where
     go : (t : Bool) → length (cond t (bytes "     ") (padded 5 U)) ≡ 5
     go true = refl
-    go false = padded-length U
+    go false = padded-length 5 U
 
 pub unused-legal : (U : ℕ) → (spaces (unusedField U) || digits (unusedField U)) ≡ true
 unfolding every

@@ -46,7 +46,7 @@ rank-inj g a b ha hb e =
     let sc : a .sector ≡ b .sector = omega (arith, f, ap (λ (x : ℕ). x * g .D) t, p .sector-low, q .sector-low) in
     address-eq a b cyl sd sc
 
-from-length : (g : Geometry) (left : ℕ) (a : Address) → length (addressesFrom g left a) ≡ left
+pub from-length : (g : Geometry) (left : ℕ) (a : Address) → length (addressesFrom g left a) ≡ left
 unfolding addressesFrom
 from-length g zero a = refl
 from-length g (suc left) a = ap suc (from-length g left (stepped g a))

@@ -9,8 +9,8 @@ use lib.Seq.{take-append-seam}
 use lib.Dec.{ltb}
 use native.Mathlib.Omega.{arith}
 use borrow.Author.Tests.{le-ltb, ltb-false}
-use Rattle.standard.specs.Pieces.{Token, part, bad, lost}
-use Rattle.standard.specs.Records.{Mode, plain, salvage, File, Met, took, gapped, ended, refused as refusedBy, State, fresh, marked, within, Move, deliver, carry, breach, meet, step, Item, rec, gap, end, no, follow, readOn, listed, atLost, afterMove, answer, inFile}
+use Rattle.standard.specs.Pieces.{Token}
+use Rattle.standard.specs.Records.{Mode, File, Met, took, gapped, ended, refused as refusedBy, State, step, Item, rec, gap, end, no, follow, readOn, listed, answer, inFile}
 use Rattle.standard.specs.Places.{start}
 use Rattle.standard.specs.Layout.{labelAt}
 use Rattle.standard.specs.Judgement.{judged}
@@ -23,7 +23,8 @@ use Rattle.standard.specs.declared.Geometry.{Geometry}
 use Rattle.standard.specs.declared.Checked.the-variants.{Passed}
 use Rattle.standard.specs.declared.Judged.the-variants.{Volume}
 use Rattle.standard.specs.declared.Answer.the-variants.{Record as RecordOf}
-use Rattle.promises.specs.PlaceLaws.{Landed, start-in-file, step-lands}
+use Rattle.promises.specs.Lists.{every-each}
+use Rattle.promises.specs.PlaceLaws.{Landed, answer-holds, start-in-file, step-lands}
 use Rattle.promises.specs.ListedLaws.{readOn-listed}
 use Rattle.promises.specs.Following.{Heard, told, onward, following, heard, Fits, tooLong, heardIn}
 
@@ -34,27 +35,22 @@ Nexts (gapped b pl) = pl .block ≡ suc b
 Nexts ended = Unit {0}
 Nexts (refusedBy x) = Unit {0}
 
-move-nexts : (mv : Move) (b o n : ℕ) (more : State → Met) → ((st : State) → Nexts (more st)) → Nexts (afterMove mv b o n more)
-move-nexts (deliver body f) b o n more h = tt
-move-nexts (carry st) b o n more h = h st
-move-nexts breach b o n more h = tt
-
-lost-nexts : (m : Mode) (b : ℕ) → Nexts (atLost m b)
-lost-nexts plain b = tt
-lost-nexts salvage b = refl
-
 answer-nexts : (m : Mode) (p : Params) (ts : List Token) (st : State) → Nexts (answer m p ts st)
-unfolding answer
-answer-nexts m p [] fresh = tt
-answer-nexts m p [] marked = tt
-answer-nexts m p [] (within body f) = tt
-answer-nexts m p (part k body b o n ∷ ts) st = move-nexts (meet p st k body b) b o n (λ st′. answer m p ts st′) (λ st′. answer-nexts m p ts st′)
-answer-nexts m p (bad b o ∷ ts) st = tt
-answer-nexts m p (lost b ∷ ts) st = lost-nexts m b
+answer-nexts m p ts st =
+    answer-holds Nexts (λ _. Unit {0}) tt (λ x. tt) (λ k body b o e h r. tt) (λ b h. refl) m p ts (every-each (λ _. Unit {0}) (λ _. tt) ts) st
 
 step-nexts : (m : Mode) (f : File) (pl : Place) → Nexts (step m f pl)
 unfolding step
 step-nexts m f pl = answer-nexts m (f .params) _ _
+
+-- the output keeps its length, and begins with the record
+laid-length : (body out : List ℕ) → length body ≤ length out → length (laidOver body out) ≡ length out
+unfolding laidOver
+laid-length body out h = length-append body (drop (length body) out) ∙ rw (length-drop (length body) out) (omega arith)
+
+pub laid-record : (body out : List ℕ) → take (length body) (laidOver body out) ≡ body
+unfolding laidOver
+laid-record body out = take-append-seam body (drop (length body) out)
 
 -- a reading of an accepted image, of a file that may be opened, is one of the file
 module _ (image : List ℕ) (g : Geometry) (slot : ℕ) (j : judged image ≡ Volume g) (ok : openRefusal g image slot ≡ Passed) where
@@ -68,15 +64,6 @@ module _ (image : List ℕ) (g : Geometry) (slot : ℕ) (j : judged image ≡ Vo
   reply-here : (m : Mode) (pl : Place) (room : ℕ) → inFile theFile pl ≡ true → reply m image slot pl room ≡ replied theFile room (step m theFile pl)
   unfolding replyIn
   reply-here m pl room h = reply-is m pl room ∙ rw h
-
-  -- the output keeps its length, and begins with the record
-  laid-length : (body out : List ℕ) → length body ≤ length out → length (laidOver body out) ≡ length out
-  unfolding laidOver
-  laid-length body out h = length-append body (drop (length body) out) ∙ rw (length-drop (length body) out) (omega arith)
-
-  laid-record : (body out : List ℕ) → take (length body) (laidOver body out) ≡ body
-  unfolding laidOver
-  laid-record body out = take-append-seam body (drop (length body) out)
 
   abbrev pub Alike : ℕ → Mode → Type 0
   Alike n m = (out : List ℕ) (pl : Place) → inFile theFile pl ≡ true → following n m image slot out pl ≡ heardIn (length out) (readOn n m theFile pl)

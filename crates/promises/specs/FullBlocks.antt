@@ -1,14 +1,15 @@
 -- The blocks of a file of an accepted volume are full: a block's content has the size that the label gives it.
 -- Assumes nothing.
-use Prim.Native.Nat.{ℕ, zero, suc, _+_, _*_, _/_, _≤_}
+use Prim.Native.Nat.{ℕ, zero, suc, _+_, _*_, _/_, _<_, _≤_}
 use mathlib.Core.Path.{_≡_, refl, _∙_}
 use mathlib.Core.Bool.{Bool, true, false, cond, not}
 use mathlib.Core.List.{List, [], _∷_}
+use lib.Dec.{ltb}
 use lib.ListN.{length, take, drop, length-append, length-drop}
 use lib.Seq.{length-take-le}
 use native.Mathlib.Omega.{arith}
-use native.Mathlib.Nat.{div-mul-le-self, zero-mul}
-use borrow.Author.Tests.{not-false}
+use native.Mathlib.Nat.{div-mul-le-self, div-le-self, le-div-iff-mul-le, zero-mul, mul-le-mul-right}
+use borrow.Author.Tests.{ltb-true, not-false}
 use Rattle.standard.specs.Layout.{bodyOffset, imageLength, bodyAt, labelAt}
 use Rattle.standard.specs.Addresses.{ordinal, before}
 use Rattle.standard.specs.Labels.{knownLevel, blockLength, dataEndOf}
@@ -25,17 +26,18 @@ use Rattle.promises.specs.Lists.{Every, every-take}
 use Rattle.promises.specs.AddressLaws.{Legal}
 use Rattle.promises.specs.Tiling.{address-size, address-room}
 use Rattle.promises.specs.Judging.{order-each, not-given}
-use Rattle.promises.specs.AcceptedLaws.{image-length, label-faultless, InRange, label-in-range}
-use Rattle.promises.specs.LabelRules.{rules, block-fits}
+use Rattle.promises.specs.AcceptedLaws.{image-length, InRange, label-in-range}
+use Rattle.promises.specs.LabelRules.{Rules, label-rules, block-fits, blocks-most}
+use Rattle.promises.specs.VolumeNumbers.{Numbers}
 
 -- the body of a legal address has P bytes
-body-full : (g : Geometry) (image : List ℕ) (a : Address) → length image ≡ imageLength g → Legal g a → length (bodyAt g image (ordinal g a)) ≡ g .P
+pub body-full : (g : Geometry) (image : List ℕ) (a : Address) → length image ≡ imageLength g → Legal g a → length (bodyAt g image (ordinal g a)) ≡ g .P
 unfolding bodyAt
 body-full g image a e h =
     let o = bodyOffset g (ordinal g a) in
     rw (address-size g a h) (length-take-le (g .P) (drop o image) (rw (length-drop o image) (omega (arith, address-room g a h, e))))
 
-bytes-full : (g : Geometry) (image : List ℕ) → length image ≡ imageLength g → (xs : List Address) → Every (Legal g) xs → length (bytesOf g image xs) ≡ length xs * g .P
+pub bytes-full : (g : Geometry) (image : List ℕ) → length image ≡ imageLength g → (xs : List Address) → Every (Legal g) xs → length (bytesOf g image xs) ≡ length xs * g .P
 unfolding bytesOf
 bytes-full g image e [] h = omega arith
 bytes-full g image e (a ∷ xs) h =
@@ -78,6 +80,23 @@ module _ (g : Geometry) (image : List ℕ) where
       let (r13, (r14, _)) = order-each _ h in
       not-false (knownLevel (labelAt g image slot)) (not-given (not (knownLevel (labelAt g image slot))) _ r14)
 
+pub open-rules : (image : List ℕ) (g : Geometry) (slot : ℕ) → judged image ≡ Volume g → openRefusal g image slot ≡ Passed → Rules g (labelAt g image slot)
+open-rules image g slot j ok = label-rules image g slot j (open-label g image slot ok) (open-level g image slot ok)
+
+-- B is 26 records of 1024 bytes at most, and a block takes one record at least, and no more than it has bytes
+pub block-low : (g : Geometry) (h : List ℕ) → Numbers g → Rules g h → blockLength h ≤ 26624
+block-low g h n r = omega (arith, blocks-most g h r, mul-le-mul-right (g .P) (n .sectors), n .size-high)
+
+pub records-one : (g : Geometry) (h : List ℕ) → 0 < g .P → 1 ≤ recordsToBlock g h
+unfolding recordsToBlock
+records-one g h p = cond-elim (λ n. 1 ≤ n) (ltb (g .P) (blockLength h))
+    (λ e. le-div-iff-mul-le p .1 (omega (arith, ltb-true (g .P) (blockLength h) e)))
+    (λ _. omega arith)
+
+pub records-few : (g : Geometry) (h : List ℕ) → blockLength h ≤ 26624 → recordsToBlock g h ≤ 26624
+unfolding recordsToBlock
+records-few g h b = cond-elim (λ n. n ≤ 26624) (ltb (g .P) (blockLength h)) (λ _. omega (arith, div-le-self (blockLength h) (g .P))) (λ _. omega arith)
+
 pub content-fits : (h : List ℕ) (left : ℕ) → contentSize h left ≤ blockLength h
 content-fits h zero = omega arith
 content-fits h (suc left) = omega arith
@@ -90,12 +109,10 @@ pub record SoundFile (g : Geometry) (image h : List ℕ) : Type 0 where
 
 pub sound-file : (image : List ℕ) (g : Geometry) (slot : ℕ) → judged image ≡ Volume g → openRefusal g image slot ≡ Passed → SoundFile g image (labelAt g image slot)
 sound-file image g slot j ok =
-    let l = open-label g image slot ok in
-    let f = label-faultless image g slot j l in
     record {
       long = image-length image g j;
-      in-range = label-in-range image g slot j l;
-      fits = block-fits g (labelAt g image slot) (rules g (labelAt g image slot) f (open-level g image slot ok));
+      in-range = label-in-range image g slot j (open-label g image slot ok);
+      fits = block-fits g (labelAt g image slot) (open-rules image g slot j ok);
     }
 
 pub block-size : (g : Geometry) (image h : List ℕ) → SoundFile g image h → (size : ℕ) → size ≤ blockLength h → (xs : List Address) → Every (Legal g) xs

@@ -3,7 +3,7 @@
 use Prim.Native.Nat.{ℕ, zero, suc, _+_, _-_, _<_, _≤_}
 use mathlib.Core.Path.{_≡_, refl, sym, subst}
 use mathlib.Core.Bool.{Bool, true, false, cond, _&&_}
-use mathlib.Core.List.{List, _∷_, []}
+use mathlib.Core.List.{List, _∷_, [], _++_}
 use lib.Dec.{ltb}
 use native.Mathlib.Omega.{arith}
 use native.Mathlib.Nat.{eq-or-lt-of-le}
@@ -40,7 +40,14 @@ order-all [] h = refl
 order-all (Passed ∷ cs) h = order-all cs (h .1)
 order-all (Stopped r ∷ cs) h = h .0
 
-else-both : (c d : Checked) → orElse c d ≡ Passed → (c ≡ Passed) × (d ≡ Passed)
+-- one row behind another: the first refusal of both, and none
+pub order-append : (xs ys : List Checked) → inOrder (xs ++ ys) ≡ orElse (inOrder xs) (inOrder ys)
+unfolding inOrder orElse
+order-append [] ys = refl
+order-append (Passed ∷ xs) ys = order-append xs ys
+order-append (Stopped r ∷ xs) ys = refl
+
+pub else-both : (c d : Checked) → orElse c d ≡ Passed → (c ≡ Passed) × (d ≡ Passed)
 unfolding orElse
 else-both Passed d h = (refl, h)
 else-both (Stopped r) d h = absurd (stopped-never r h)

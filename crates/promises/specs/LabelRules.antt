@@ -11,15 +11,21 @@ use borrow.Author.Tests.{ltb-false, ltb-true, leb-true, eqb-true, lt-ltb, not-tr
 use Rattle.standard.specs.Files.{recordsToBlock}
 use Rattle.standard.specs.Characters.{bytes, oneOf, at, between, aSet, field}
 use Rattle.standard.specs.Addresses.{rank, before, isDataEnd}
-use Rattle.standard.specs.Labels.{level, knownLevel, anotherLevel, formatOf, isFixed, isVariable, isSpanned, blockLength, recordLength, isBlocked, startOf, dataEndOf, rule29, rule40, rule23, rule63, rule54, rule75, hdr1Rules, labelFault, Format, fixed, variable, spanned}
+use Rattle.standard.specs.Labels.{level, knownLevel, anotherLevel, formatOf, isFixed, isVariable, isSpanned, blockLength, recordLength, unusedCount, isBlocked, startOf, dataEndOf, rule29, rule40, rule23, rule63, rule54, rule58, rule75, hdr1Rules, labelFault, Format, fixed, variable, spanned}
+use Rattle.standard.specs.Layout.{labelAt}
+use Rattle.standard.specs.Slots.{hasLabel}
+use Rattle.standard.specs.Judgement.{judged}
 use Rattle.standard.specs.declared.Geometry.{Geometry}
+use Rattle.standard.specs.declared.Judged.the-variants.{Volume}
 use Rattle.promises.specs.Basics.{by-test, true-not-false, and-l, and-r, or-rest, applies, applies-both}
 use Rattle.promises.specs.Judging.{rows-each}
+use Rattle.promises.specs.AcceptedLaws.{label-faultless}
 
 pub record Rules (g : Geometry) (h : List ℕ) : Type 0 where
   pub r23 : rule23 g h ≡ true
   pub r40 : rule40 h ≡ true
   pub r54 : rule54 g h ≡ true
+  pub r58 : rule58 g h ≡ true
   pub r63 : rule63 h ≡ true
 
 no-other : (h : List ℕ) → knownLevel h ≡ true → anotherLevel h ≡ false
@@ -39,8 +45,14 @@ rules g h z kn =
       r23 = or-rest (anotherLevel h) (rule23 g h) o r23;
       r40 = or-rest (anotherLevel h) (rule40 h) o r40;
       r54 = or-rest (anotherLevel h) (rule54 g h) o r54;
+      r58 = or-rest (anotherLevel h) (rule58 g h) o r58;
       r63 = or-rest (anotherLevel h) (rule63 h) o r63;
     }
+
+-- of a label of an accepted image that refusals 13 and 14 pass
+pub label-rules : (image : List ℕ) (g : Geometry) (slot : ℕ) → judged image ≡ Volume g → hasLabel g image slot ≡ true → knownLevel (labelAt g image slot) ≡ true
+    → Rules g (labelAt g image slot)
+label-rules image g slot j l kn = rules g (labelAt g image slot) (label-faultless image g slot j l) kn
 
 -- "75-79 data end: not before start"
 pub data-end-behind : (g : Geometry) (h : List ℕ) → labelFault g h ≡ 0 → knownLevel h ≡ true → rank g (startOf h) ≤ rank g (dataEndOf h)
@@ -91,6 +103,14 @@ module _ (g : Geometry) (h : List ℕ) (r : Rules g h) where
   blocks-most =
       let q = r .r23 in
       leb-true (blockLength h) (g .D * g .P) (search (and-l, and-r) depth 9)
+
+  -- "58-62 unused count U, spaces meaning 0, below B"
+  pub unused-below : unusedCount h < blockLength h
+  unfolding rule58
+  unused-below =
+      let q = r .r58 in
+      let e : (not (rule23 g h) || ltb (unusedCount h) (blockLength h)) ≡ true = search (and-l, and-r) depth 9 in
+      ltb-true (unusedCount h) (blockLength h) (applies (rule23 g h) _ (r .r23) e)
 
   both : (rule23 g h && rule40 h) ≡ true
   both = rw (r .r23, r .r40)

@@ -10,23 +10,23 @@ use lib.Dec.{leb, ltb, eqb}
 use native.Mathlib.Omega.{arith}
 use native.Mathlib.Numerals.{add-one}
 use native.Mathlib.Nat.{le-refl, not-suc-le-zero}
-use borrow.Author.Tests.{leb-true, leb-false, ltb-false, le-leb, lt-leb, eqb-true, eqb-false, not-false, ne-eqb}
+use borrow.Author.Tests.{leb-true, leb-false, ltb-false, le-leb, lt-leb, eqb-true, not-false}
 use Rattle.standard.specs.Refusals.{refuse}
 use Rattle.standard.specs.Layout.{labelAt}
 use Rattle.standard.specs.Labels.{knownLevel, formatOf, blockLength, recordLength, isBlocked, Format, fixed, variable, spanned}
 use Rattle.standard.specs.Slots.{hasLabel}
 use Rattle.standard.specs.Judgement.{judged}
-use Rattle.standard.specs.Packing.{Laid, recordV, placeIf, lay, layOne, spreadIf, spread, least, startIf, layS, packIn, pack}
+use Rattle.standard.specs.Packing.{Laid, then, thenNext, fill, recordV, placeIf, lay, layOne, spreadIf, spread, least, startIf, layS, Packing, packIn, pack}
 use Rattle.standard.specs.Writing.{total, parted, wrongIn, wrongLength, lengthsFrom, packing, needed}
 use Rattle.standard.specs.declared.Geometry.{Geometry}
 use Rattle.standard.specs.declared.Checked.the-variants.{Passed}
 use Rattle.standard.specs.declared.Judged.the-variants.{Volume}
-use Rattle.promises.specs.Basics.{either, lt-or-le, or-r, true-not-false}
+use Rattle.promises.specs.Basics.{or-r}
 use Rattle.promises.specs.Judging.{stop-first, stop-rest}
-use Rattle.promises.specs.LabelRules.{Rules, rules, Shape, shape, fixed-low, fixed-high, variable-high, spanned-low, isF, isV, isS}
+use Rattle.promises.specs.LabelRules.{Rules, label-rules, Shape, shape, fixed-low, fixed-high, variable-high, spanned-low, isF, isV, isS}
 use Rattle.promises.specs.WritingLaws.{recordV-length}
+use Rattle.promises.specs.PackedRecords.{six-fits}
 use Rattle.promises.specs.WritingPromises.{parted-lengths}
-use Rattle.promises.specs.AcceptedLaws.{label-faultless}
 use Rattle.promises.specs.Lists.{Every}
 
 -- Where a writer stands: the room left in the current block, and the blocks begun.
@@ -88,26 +88,31 @@ needed-append f bl B room blocks (n ∷ xs) ys =
     needed-append f bl B (placed f bl B room blocks n .room) (placed f bl B room blocks n .blocks) xs ys
 
 -- the lengths from number i on, from those behind it
-pub needed-next : (f : Format) (bl : Bool) (B room blocks : ℕ) (lengths : List ℕ) (i : ℕ) → i < length lengths
-    → neededFrom f bl B room blocks (drop i lengths)
-    ≡ neededFrom f bl B (placed f bl B room blocks (getD lengths i 0) .room) (placed f bl B room blocks (getD lengths i 0) .blocks) (drop (i + 1) lengths)
-unfolding neededFrom
-needed-next f bl B room blocks lengths i h =
+pub level-next : (f : Format) (bl : Bool) (B room blocks : ℕ) (lengths : List ℕ) (i : ℕ) → i < length lengths
+    → levelFrom f bl B room blocks (drop i lengths)
+    ≡ levelFrom f bl B (placed f bl B room blocks (getD lengths i 0) .room) (placed f bl B room blocks (getD lengths i 0) .blocks) (drop (i + 1) lengths)
+unfolding levelFrom
+level-next f bl B room blocks lengths i h =
     let l : Level = placed f bl B room blocks (getD lengths i 0) in
-    ap (neededFrom f bl B room blocks) (drop-cons lengths i 0 h) ∙ ap (λ (k : ℕ). neededFrom f bl B (l .room) (l .blocks) (drop k lengths)) (sym (add-one i))
+    ap (levelFrom f bl B room blocks) (drop-cons lengths i 0 h) ∙ ap (λ (k : ℕ). levelFrom f bl B (l .room) (l .blocks) (drop k lengths)) (sym (add-one i))
 
 -- THE LAW OF A RECORD OF S: it ends in the current block, or it goes on in the next with what is left of it
 pub spread-ends : (B room blocks n : ℕ) → 5 + n ≤ room → spreadTo (suc n) B room blocks n ≡ levelOf (room - (5 + n)) blocks
 unfolding spreadTo
 spread-ends B room blocks n h = rw (le-leb (5 + n) room h)
 
-least-pos : (n : ℕ) → 1 ≤ n → leastFor n ≡ 6
+pub least-pos : (n : ℕ) → 1 ≤ n → leastFor n ≡ 6
 least-pos zero h = absurd (not-suc-le-zero h)
 least-pos (suc n) h = refl
 
-least-most : (n : ℕ) → (5 ≤ leastFor n) × (leastFor n ≤ 6)
+pub least-most : (n : ℕ) → (5 ≤ leastFor n) × (leastFor n ≤ 6)
 least-most zero = (omega arith, omega arith)
 least-most (suc n) = (omega arith, omega arith)
+
+-- a segment that goes on takes a byte or more, and so does the next
+pub six-left : (n room B : ℕ) → room < 5 + n → leastFor n ≤ room → leastFor n ≤ B → (6 ≤ room) × (6 ≤ B)
+six-left zero room B o lo hi = absurd (omega arith)
+six-left (suc n) room B o lo hi = (lo, hi)
 
 spread-enough : (k m B room blocks n : ℕ) → n < k → n < m → leastFor n ≤ room → leastFor n ≤ B → spreadTo k B room blocks n ≡ spreadTo m B room blocks n
 unfolding spreadTo
@@ -122,84 +127,96 @@ spread-enough (suc k) (suc m) B room blocks n hk hm h hb =
     go true q ih = refl
     go false q ih =
         let over-room = leb-false (5 + n) room q in
-        let five = least-most n in
-        let six = least-pos n (omega arith) in
-        let six′ = least-most (n - (room - 5)) in
+        let on = six-left n room B over-room h hb in
+        let most = least-most (n - (room - 5)) in
         ih (omega arith) (omega arith) (omega arith)
 
 pub spread-goes-on : (B room blocks n : ℕ) → room < 5 + n → leastFor n ≤ room → leastFor n ≤ B
     → spreadTo (suc n) B room blocks n ≡ spreadTo (suc (n - (room - 5))) B B (suc blocks) (n - (room - 5))
 unfolding spreadTo
 spread-goes-on B room blocks n l h hb =
-    let five = least-most n in
-    let six = least-pos n (omega arith) in
-    let six′ = least-most (n - (room - 5)) in
+    let on = six-left n room B l h hb in
+    let most = least-most (n - (room - 5)) in
     rw (lt-leb (5 + n) room l) (spread-enough n (suc (n - (room - 5))) B B (suc blocks) (n - (room - 5)) (omega arith) (le-refl (suc (n - (room - 5)))) (omega arith) (omega arith))
 
--- ---- the bytes do not matter
+-- ---- the bytes do not matter: what is laid, from so many blocks on, as a level
+abbrev laidLevel : ℕ → Laid → Level
+laidLevel blocks l = levelOf (l .unused) (blocks + length (l .later))
 
-least-for : (x : List ℕ) → least x ≡ leastFor (length x)
+none-laid : (room blocks : ℕ) → levelOf room (blocks + 0) ≡ levelOf room blocks
+none-laid room blocks = let z : blocks + 0 ≡ blocks = omega arith in rw z
+
+next-laid : (blocks : ℕ) (bytes : List ℕ) (l : Laid) → laidLevel blocks (thenNext bytes l) ≡ laidLevel (suc blocks) l
+next-laid blocks bytes l =
+    let e : blocks + suc (length (l .later)) ≡ suc blocks + length (l .later) = omega arith in
+    rw e
+
+pub least-for : (x : List ℕ) → least x ≡ leastFor (length x)
 least-for [] = refl
 least-for (y ∷ x) = refl
 
 -- F, and V blocked
-lay-count : (f : Format) (bl : Bool) (cw : ℕ) (B : ℕ) → ((room blocks n : ℕ) → placed f bl B room blocks n ≡ placedWhole B room blocks (cw + n))
+lay-level : (f : Format) (bl : Bool) (cw : ℕ) (B : ℕ) → ((room blocks n : ℕ) → placed f bl B room blocks n ≡ placedWhole B room blocks (cw + n))
     → (enc : List ℕ → List ℕ) → ((x : List ℕ) → length (enc x) ≡ cw + length x)
-    → (xs : List (List ℕ)) (room blocks : ℕ) → blocks + length (lay B room (map enc xs) .later) ≡ neededFrom f bl B room blocks (map length xs)
-unfolding lay neededFrom
-lay-count f bl cw B p enc e [] room blocks = omega arith
-lay-count f bl cw B p enc e (x ∷ xs) room blocks =
-    go (leb (length (enc x)) room) (λ r k. lay-count f bl cw B p enc e xs r k)
-    ∙ ap (λ (l : Level). neededFrom f bl B (l .room) (l .blocks) (map length xs)) (ap (placedWhole B room blocks) (e x) ∙ sym (p room blocks (length x)))
+    → (xs : List (List ℕ)) (room blocks : ℕ) → laidLevel blocks (lay B room (map enc xs)) ≡ levelFrom f bl B room blocks (map length xs)
+unfolding lay levelFrom
+lay-level f bl cw B p enc e [] room blocks = none-laid room blocks
+lay-level f bl cw B p enc e (x ∷ xs) room blocks =
+    go (leb (length (enc x)) room) (λ r k. lay-level f bl cw B p enc e xs r k)
+    ∙ ap (λ (l : Level). levelFrom f bl B (l .room) (l .blocks) (map length xs)) (ap (placedWhole B room blocks) (e x) ∙ sym (p room blocks (length x)))
   where
-    go : (t : Bool) → ((r k : ℕ) → k + length (lay B r (map enc xs) .later) ≡ neededFrom f bl B r k (map length xs))
-        → blocks + length (placeIf t B room (enc x) (λ r. lay B r (map enc xs)) .later)
-        ≡ neededFrom f bl B (cond t (levelOf (room - length (enc x)) blocks) (levelOf (B - length (enc x)) (suc blocks)) .room)
+    go : (t : Bool) → ((r k : ℕ) → laidLevel k (lay B r (map enc xs)) ≡ levelFrom f bl B r k (map length xs))
+        → laidLevel blocks (placeIf t B room (enc x) (λ r. lay B r (map enc xs)))
+        ≡ levelFrom f bl B (cond t (levelOf (room - length (enc x)) blocks) (levelOf (B - length (enc x)) (suc blocks)) .room)
         (cond t (levelOf (room - length (enc x)) blocks) (levelOf (B - length (enc x)) (suc blocks)) .blocks) (map length xs)
     go true ih = ih (room - length (enc x)) blocks
-    go false ih = omega (arith, ih (B - length (enc x)) (suc blocks))
+    go false ih = next-laid blocks (fill room) (then (enc x) (lay B (B - length (enc x)) (map enc xs))) ∙ ih (B - length (enc x)) (suc blocks)
 
 -- V unblocked
-one-count : (B : ℕ) (xs : List (List ℕ)) (room blocks : ℕ) → blocks + length (layOne B (map recordV xs)) ≡ neededFrom variable false B room blocks (map length xs)
-unfolding layOne neededFrom
-one-count B [] room blocks = omega arith
-one-count B (x ∷ xs) room blocks = omega (arith, one-count B xs 0 (suc blocks))
+one-level : (B : ℕ) (xs : List (List ℕ)) (blocks : ℕ) → levelOf 0 (blocks + length (layOne B (map recordV xs))) ≡ levelFrom variable false B 0 blocks (map length xs)
+unfolding layOne levelFrom
+one-level B [] blocks = none-laid 0 blocks
+one-level B (x ∷ xs) blocks =
+    let n = length (layOne B (map recordV xs)) in
+    let e : blocks + suc n ≡ suc blocks + n = omega arith in
+    ap (levelOf 0) e ∙ one-level B xs (suc blocks)
 
 -- S
-spread-count : (B : ℕ) (more : ℕ → Laid) (k : ℕ) (begun : Bool) (room blocks : ℕ) (body : List ℕ)
-    → blocks + length (spread k B begun room body more .later)
-    ≡ spreadTo k B room blocks (length body) .blocks + length (more (spreadTo k B room blocks (length body) .room) .later)
+spread-level : (B : ℕ) (more : ℕ → Laid) (k : ℕ) (begun : Bool) (room blocks : ℕ) (body : List ℕ)
+    → laidLevel blocks (spread k B begun room body more)
+    ≡ laidLevel (spreadTo k B room blocks (length body) .blocks) (more (spreadTo k B room blocks (length body) .room))
 unfolding spread spreadTo
-spread-count B more zero begun room blocks body = refl
-spread-count B more (suc k) begun room blocks body =
-    go (leb (5 + length body) room) (rw length-drop at (spread-count B more k true B (suc blocks) (drop (room - 5) body)))
+spread-level B more zero begun room blocks body = refl
+spread-level B more (suc k) begun room blocks body =
+    go (leb (5 + length body) room) (rw length-drop at (spread-level B more k true B (suc blocks) (drop (room - 5) body)))
   where
     next : Level
     next = spreadTo k B B (suc blocks) (length body - (room - 5))
 
-    go : (t : Bool) → suc blocks + length (spread k B true B (drop (room - 5) body) more .later) ≡ next .blocks + length (more (next .room) .later)
-        → blocks + length (spreadIf t begun room body more (λ rest. spread k B true B rest more) .later)
-        ≡ cond t (levelOf (room - (5 + length body)) blocks) next .blocks + length (more (cond t (levelOf (room - (5 + length body)) blocks) next .room) .later)
+    go : (t : Bool) → laidLevel (suc blocks) (spread k B true B (drop (room - 5) body) more) ≡ laidLevel (next .blocks) (more (next .room))
+        → laidLevel blocks (spreadIf t begun room body more (λ rest. spread k B true B rest more))
+        ≡ laidLevel (cond t (levelOf (room - (5 + length body)) blocks) next .blocks) (more (cond t (levelOf (room - (5 + length body)) blocks) next .room))
     go true ih = refl
-    go false ih = omega (arith, ih)
+    go false ih = next-laid blocks [] (spread k B true B (drop (room - 5) body) more) ∙ ih
 
-layS-count : (bl : Bool) (B : ℕ) (xs : List (List ℕ)) (room blocks : ℕ) → blocks + length (layS B room xs .later) ≡ neededFrom spanned bl B room blocks (map length xs)
-unfolding layS neededFrom
-layS-count bl B [] room blocks = omega arith
-layS-count bl B (x ∷ xs) room blocks =
-    rw (least-for x) (go (leb (leastFor (length x)) room) (λ r k. layS-count bl B xs r k))
+layS-level : (bl : Bool) (B : ℕ) (xs : List (List ℕ)) (room blocks : ℕ) → laidLevel blocks (layS B room xs) ≡ levelFrom spanned bl B room blocks (map length xs)
+unfolding layS levelFrom
+layS-level bl B [] room blocks = none-laid room blocks
+layS-level bl B (x ∷ xs) room blocks =
+    rw (least-for x) (go (leb (leastFor (length x)) room) (λ r k. layS-level bl B xs r k))
   where
-    go : (t : Bool) → ((r k : ℕ) → k + length (layS B r xs .later) ≡ neededFrom spanned bl B r k (map length xs))
-        → blocks + length (startIf t B room (λ r. spread (suc (length x)) B false r x (λ r′. layS B r′ xs)) .later)
-        ≡ neededFrom spanned bl B (cond t (spreadTo (suc (length x)) B room blocks (length x)) (spreadTo (suc (length x)) B B (suc blocks) (length x)) .room)
+    go : (t : Bool) → ((r k : ℕ) → laidLevel k (layS B r xs) ≡ levelFrom spanned bl B r k (map length xs))
+        → laidLevel blocks (startIf t B room (λ r. spread (suc (length x)) B false r x (λ r′. layS B r′ xs)))
+        ≡ levelFrom spanned bl B (cond t (spreadTo (suc (length x)) B room blocks (length x)) (spreadTo (suc (length x)) B B (suc blocks) (length x)) .room)
         (cond t (spreadTo (suc (length x)) B room blocks (length x)) (spreadTo (suc (length x)) B B (suc blocks) (length x)) .blocks) (map length xs)
     go true ih =
         let l : Level = spreadTo (suc (length x)) B room blocks (length x) in
-        spread-count B (λ r. layS B r xs) (suc (length x)) false room blocks x ∙ ih (l .room) (l .blocks)
+        spread-level B (λ r. layS B r xs) (suc (length x)) false room blocks x ∙ ih (l .room) (l .blocks)
     go false ih =
         let l : Level = spreadTo (suc (length x)) B B (suc blocks) (length x) in
-        let e = spread-count B (λ r. layS B r xs) (suc (length x)) false B (suc blocks) x in
-        omega (arith, e, ih (l .room) (l .blocks))
+        next-laid blocks (fill room) (spread (suc (length x)) B false B x (λ r. layS B r xs))
+        ∙ spread-level B (λ r. layS B r xs) (suc (length x)) false B (suc blocks) x
+        ∙ ih (l .room) (l .blocks)
 
 -- ---- what refusals 25 and 26, and the label's rules, leave: every record can be laid
 abbrev pub FitsIn : Format → ℕ → ℕ → Type 0
@@ -212,11 +229,7 @@ EachFits f B lengths = Every (FitsIn f B) lengths
 
 least-fits : (B : ℕ) → 5 ≤ B → (n : ℕ) → (eqb B 5 && not (eqb n 0)) ≡ false → leastFor n ≤ B
 least-fits B l zero e = l
-least-fits B l (suc n) e = go (eqb B 5) refl
-  where
-    go : (t : Bool) → eqb B 5 ≡ t → 6 ≤ B
-    go true q = absurd (true-not-false (eqb B 5 && not (eqb (suc n) 0)) (rw (q, ne-eqb (suc n) 0 (λ (z : suc n ≡ 0). omega arith))) e)
-    go false q = let d = eqb-false B 5 q in either (lt-or-le 5 B) (λ (k : 5 < B). k) (λ (k : B ≤ 5). absurd (d (omega arith)))
+least-fits B l (suc n) e = six-fits B n l e
 
 one-fits : (g : Geometry) (h : List ℕ) → Rules g h → Shape h → (n : ℕ) → wrongLength h n ≡ false → FitsIn (formatOf h) (blockLength h) n
 unfolding wrongLength
@@ -247,30 +260,35 @@ begin-spanned : (B n : ℕ) → leastFor n ≤ B → placedSpanned B 0 0 n ≡ p
 begin-spanned B zero h = rw (le-leb 5 B h)
 begin-spanned B (suc n) h = rw (le-leb 6 B h)
 
-begun-as : (f : Format) (bl : Bool) (B : ℕ) (a b : Level) (lengths : List ℕ) → a ≡ b → neededFrom f bl B (a .room) (a .blocks) lengths ≡ neededFrom f bl B (b .room) (b .blocks) lengths
-begun-as f bl B a b lengths e = ap (λ (l : Level). neededFrom f bl B (l .room) (l .blocks) lengths) e
+begun-as : (f : Format) (bl : Bool) (B : ℕ) (a b : Level) (lengths : List ℕ) → a ≡ b → levelFrom f bl B (b .room) (b .blocks) lengths ≡ levelFrom f bl B (a .room) (a .blocks) lengths
+begun-as f bl B a b lengths e = sym (ap (λ (l : Level). levelFrom f bl B (l .room) (l .blocks) lengths) e)
 
-pack-count : (f : Format) (bl : Bool) (B : ℕ) (xs : List (List ℕ)) → EachFits f B (map length xs)
-    → length (packIn f bl B xs .contents) ≡ neededFrom f bl B 0 0 (map length xs)
-unfolding neededFrom
-pack-count fixed bl B [] h = refl
-pack-count fixed bl B (x ∷ xs) h =
-    let c : 1 + length (lay B B (map (λ (y : List ℕ). y) (x ∷ xs)) .later) ≡ neededFrom fixed bl B B 1 (map length (x ∷ xs)) =
-    lay-count fixed bl 0 B (λ room blocks n. ap (placedWhole B room blocks) (omega arith)) (λ (y : List ℕ). y) (λ y. omega arith) (x ∷ xs) B 1 in
-    let d : 1 + length (lay B B (x ∷ xs) .later) ≡ neededFrom fixed bl B B 1 (map length (x ∷ xs)) = ap (λ (l : List (List ℕ)). 1 + length (lay B B l .later)) (sym (map-id (x ∷ xs))) ∙ c in
-    (omega arith) ∙ d ∙ sym (begun-as fixed bl B _ _ (map length xs) (begin-whole B (length x) (h .0 .0) (h .0 .1)))
-pack-count variable true B [] h = refl
-pack-count variable true B (x ∷ xs) h =
-    let c : 1 + length (lay B B (map recordV (x ∷ xs)) .later) ≡ neededFrom variable true B B 1 (map length (x ∷ xs)) =
-    lay-count variable true 4 B (λ room blocks n. refl) recordV recordV-length (x ∷ xs) B 1 in
-    (omega arith) ∙ c ∙ sym (begun-as variable true B _ _ (map length xs) (begin-whole B (4 + length x) (omega arith) (h .0)))
-pack-count variable false B xs h = sym (zero-plus (length (layOne B (map recordV xs)))) ∙ one-count B xs 0 0
-  where
-    zero-plus : (n : ℕ) → 0 + n ≡ n
-    zero-plus n = omega arith
-pack-count spanned bl B [] h = refl
-pack-count spanned bl B (x ∷ xs) h =
-    (omega arith) ∙ layS-count bl B (x ∷ xs) B 1 ∙ sym (begun-as spanned bl B _ _ (map length xs) (begin-spanned B (length x) (h .0)))
+abbrev packedLevel : Packing → Level
+packedLevel p = levelOf (p .U) (length (p .contents))
+
+first-laid : (l : Laid) → levelOf (l .unused) (suc (length (l .later))) ≡ laidLevel 1 l
+first-laid l = let e : suc (length (l .later)) ≡ 1 + length (l .later) = omega arith in rw e
+
+pack-level : (f : Format) (bl : Bool) (B : ℕ) (xs : List (List ℕ)) → EachFits f B (map length xs) → packedLevel (packIn f bl B xs) ≡ levelFrom f bl B 0 0 (map length xs)
+unfolding levelFrom
+pack-level fixed bl B [] h = refl
+pack-level fixed bl B (x ∷ xs) h =
+    first-laid (lay B B (x ∷ xs))
+    ∙ ap (λ (l : List (List ℕ)). laidLevel 1 (lay B B l)) (sym (map-id (x ∷ xs)))
+    ∙ lay-level fixed bl 0 B (λ room blocks n. ap (placedWhole B room blocks) (omega arith)) (λ (y : List ℕ). y) (λ y. omega arith) (x ∷ xs) B 1
+    ∙ begun-as fixed bl B _ _ (map length xs) (begin-whole B (length x) (h .0 .0) (h .0 .1))
+pack-level variable true B [] h = refl
+pack-level variable true B (x ∷ xs) h =
+    first-laid (lay B B (map recordV (x ∷ xs)))
+    ∙ lay-level variable true 4 B (λ room blocks n. refl) recordV recordV-length (x ∷ xs) B 1
+    ∙ begun-as variable true B _ _ (map length xs) (begin-whole B (4 + length x) (omega arith) (h .0))
+pack-level variable false B xs h =
+    let n = length (layOne B (map recordV xs)) in
+    let e : n ≡ 0 + n = omega arith in
+    ap (levelOf 0) e ∙ one-level B xs 0
+pack-level spanned bl B [] h = refl
+pack-level spanned bl B (x ∷ xs) h =
+    first-laid (layS B B (x ∷ xs)) ∙ layS-level bl B (x ∷ xs) B 1 ∙ begun-as spanned bl B _ _ (map length xs) (begin-spanned B (length x) (h .0))
 
 -- ---- how large it can be
 
@@ -339,9 +357,8 @@ spread-bound (suc k) B room blocks n h hb = go (leb (5 + n) room) refl (λ h₁.
     go true q ih = omega arith
     go false q ih =
         let m = leb-false (5 + n) room q in
-        let five = least-most n in
-        let six = least-pos n (omega arith) in
-        let six′ = least-most (n - (room - 5)) in
+        let on = six-left n room B m h hb in
+        let most = least-most (n - (room - 5)) in
         omega (arith, ih (omega arith))
 
 spanned-bound : (B room blocks n : ℕ) → leastFor n ≤ B → placedSpanned B room blocks n .blocks ≤ blocks + 1 + n
@@ -366,13 +383,24 @@ bound-any spanned bl B room blocks lengths h = bound-spanned bl B room blocks le
 
 -- ---- THE THEOREMS, of a label right by the rules, and lengths that refusals 25 and 26 pass
 module _ (g : Geometry) (h bodies lengths : List ℕ) (r : Rules g h) (sum : total lengths ≡ length bodies) (fits : lengthsFrom h 0 lengths ≡ Passed) where
-  -- THE BLOCKS NEEDED ARE COUNTED OVER THE LENGTHS, from no block and no room on; the bytes do not matter
-  pub needed-counted : needed h bodies lengths ≡ neededFrom (formatOf h) (isBlocked h) (blockLength h) 0 0 lengths
+  -- U AND THE BLOCKS NEEDED ARE COUNTED OVER THE LENGTHS, from no block and no room on; the bytes do not matter
+  packing-level : levelOf (packing h bodies lengths .U) (needed h bodies lengths) ≡ levelFrom (formatOf h) (isBlocked h) (blockLength h) 0 0 lengths
   unfolding packing pack
-  needed-counted =
+  packing-level =
       let e = parted-lengths lengths bodies sum in
-      pack-count (formatOf h) (isBlocked h) (blockLength h) (parted bodies lengths) (subst (EachFits (formatOf h) (blockLength h)) (sym e) (each-fits g h r 0 lengths fits))
-      ∙ ap (neededFrom (formatOf h) (isBlocked h) (blockLength h) 0 0) e
+      pack-level (formatOf h) (isBlocked h) (blockLength h) (parted bodies lengths) (subst (EachFits (formatOf h) (blockLength h)) (sym e) (each-fits g h r 0 lengths fits))
+      ∙ ap (levelFrom (formatOf h) (isBlocked h) (blockLength h) 0 0) e
+
+  -- U IS THE ROOM THAT THE LIST LEAVES
+  pub unused-counted : packing h bodies lengths .U ≡ levelFrom (formatOf h) (isBlocked h) (blockLength h) 0 0 lengths .room
+  unused-counted = ap (λ (l : Level). l .room) packing-level
+
+  -- THE BLOCKS NEEDED ARE THOSE BEGUN BEHIND IT
+  pub needed-level-is : needed h bodies lengths ≡ levelFrom (formatOf h) (isBlocked h) (blockLength h) 0 0 lengths .blocks
+  needed-level-is = ap (λ (l : Level). l .blocks) packing-level
+
+  pub needed-counted : needed h bodies lengths ≡ neededFrom (formatOf h) (isBlocked h) (blockLength h) 0 0 lengths
+  needed-counted = needed-level-is ∙ sym (needed-level (formatOf h) (isBlocked h) (blockLength h) 0 0 lengths)
 
   -- SO THEY ARE NO MORE THAN THERE ARE RECORDS AND BYTES, and no more than there are records in F and V
   pub needed-bound : needed h bodies lengths ≤ length lengths + length bodies
@@ -385,10 +413,6 @@ module _ (g : Geometry) (h bodies lengths : List ℕ) (r : Rules g h) (sum : tot
   needed-bound-V f = omega (arith, needed-counted, bound-whole (formatOf h) (rw f tt) (isBlocked h) (blockLength h) 0 0 lengths)
 
 -- ---- THE SAME OF A FILE OF AN ACCEPTED IMAGE that refusals 13 and 14 pass
-pub label-rules : (image : List ℕ) (g : Geometry) (slot : ℕ) → judged image ≡ Volume g → hasLabel g image slot ≡ true → knownLevel (labelAt g image slot) ≡ true
-    → Rules g (labelAt g image slot)
-label-rules image g slot j l kn = rules g (labelAt g image slot) (label-faultless image g slot j l) kn
-
 module _ (image : List ℕ) (g : Geometry) (slot : ℕ) (bodies lengths : List ℕ) (j : judged image ≡ Volume g) (l : hasLabel g image slot ≡ true)
     (kn : knownLevel (labelAt g image slot) ≡ true) (sum : total lengths ≡ length bodies) (fits : lengthsFrom (labelAt g image slot) 0 lengths ≡ Passed) where
   pub file-needed-counted : needed (labelAt g image slot) bodies lengths

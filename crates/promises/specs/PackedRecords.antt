@@ -23,7 +23,7 @@ use Rattle.promises.specs.Tiling.{lengths}
 use Rattle.promises.specs.Judging.{stop-first, stop-rest}
 use Rattle.promises.specs.LabelRules.{Rules, Shape, isF, isV, isS, shape, fixed-low, fixed-high, fixed-one, fixed-whole, variable-low, variable-high, block-most, spanned-low, spanned-blocked}
 use Rattle.promises.specs.ReadingLaws.{Reads}
-use Rattle.promises.specs.WritingLaws.{least-of, least-five, FitS, write-read-S, recordV-length, FitV, write-read-V, write-read-V1, FitF, Multiple, multiple-less, multiple-short, write-read-F}
+use Rattle.promises.specs.WritingLaws.{goes-on, FitS, write-read-S, recordV-length, FitV, write-read-V, write-read-V1, FitF, Multiple, multiple-less, multiple-short, write-read-F}
 use Rattle.promises.specs.PackedSizes.{Sizes, lay-size, layS-size}
 
 -- the blocks have B bytes, and the last B-U
@@ -77,11 +77,7 @@ spread-below B more k (suc n) begun room body hn hl hr =
         let fits = leb-true (5 + length body) room q in
         rw q (k (room - (5 + length body)) (omega arith))
     go false q ih =
-        let over-room = leb-false (5 + length body) room q in
-        let five = least-five body in
-        let six = least-of body (omega arith) in
-        let lr = length-drop (room - 5) body in
-        let six′ = least-of (drop (room - 5) body) (omega arith) in
+        let on = goes-on room body (leb-false (5 + length body) room q) hl in
         rw q (ih (drop (room - 5) body) (omega arith) (omega arith))
 
 one-below : (B : ℕ) (x : List ℕ) (xs : List (List ℕ)) (room : ℕ) → room ≤ B → least x ≤ B → ((r : ℕ) → r < B → layS B r xs .unused < B)
@@ -221,13 +217,17 @@ fits-F B R = every-map _ (λ x. length x ≡ R) (λ x v. eqb-true (length x) R (
 fits-V : (B R : ℕ) (xs : List (List ℕ)) → Every (λ x. wrongIn variable B R (length x) ≡ false) xs → FitV R xs
 fits-V B R = every-map _ (λ x. 4 + length x ≤ R) (λ x v. omega (arith, ltb-false R (length x + 4) v))
 
-least-fits : (B : ℕ) → 5 ≤ B → (x : List ℕ) → (eqb B 5 && not (eqb (length x) 0)) ≡ false → least x ≤ B
-least-fits B l [] e = l
-least-fits B l (y ∷ x) e = go (eqb B 5) refl
+-- 26, "or not 0 with B = 5": where a record has a byte, a block has room for it
+pub six-fits : (B n : ℕ) → 5 ≤ B → (eqb B 5 && not (eqb (suc n) 0)) ≡ false → 6 ≤ B
+six-fits B n l e = go (eqb B 5) refl
   where
     go : (t : Bool) → eqb B 5 ≡ t → 6 ≤ B
-    go true q = absurd (true-not-false (eqb B 5 && not (eqb (suc (length x)) 0)) (rw (q, ne-eqb (suc (length x)) 0 (λ (z : suc (length x) ≡ 0). omega arith))) e)
-    go false q = let n = eqb-false B 5 q in either (lt-or-le 5 B) (λ (k : 5 < B). k) (λ (k : B ≤ 5). absurd (n (omega arith)))
+    go true q = absurd (true-not-false (eqb B 5 && not (eqb (suc n) 0)) (rw (q, ne-eqb (suc n) 0 (λ (z : suc n ≡ 0). omega arith))) e)
+    go false q = let d = eqb-false B 5 q in either (lt-or-le 5 B) (λ (k : 5 < B). k) (λ (k : B ≤ 5). absurd (d (omega arith)))
+
+least-fits : (B : ℕ) → 5 ≤ B → (x : List ℕ) → (eqb B 5 && not (eqb (length x) 0)) ≡ false → least x ≤ B
+least-fits B l [] e = l
+least-fits B l (y ∷ x) e = six-fits B (length x) l e
 
 fits-S : (B R : ℕ) (bl : Bool) → 5 ≤ B → (xs : List (List ℕ)) → Every (λ x. wrongIn spanned B R (length x) ≡ false) xs → FitS R bl B xs
 fits-S B R bl l =

@@ -4,15 +4,14 @@ use Prim.Native.Nat.{ℕ, zero, suc, _+_, _-_, _≤_, _<_}
 use mathlib.Core.Path.{_≡_, refl}
 use mathlib.Core.Bool.{Bool, true, false}
 use mathlib.Core.List.{List, [], _∷_, _++_}
-use lib.ListN.{length, take, drop, length-append, length-drop, length-replicate}
-use lib.Seq.{length-take-le}
+use lib.ListN.{length, take, drop, length-append, length-replicate}
 use lib.Dec.{leb}
 use native.Mathlib.Omega.{arith}
 use native.Mathlib.Nat.{not-suc-le-zero, le-refl}
 use borrow.Author.Tests.{leb-true, leb-false}
 use Rattle.standard.specs.Packing.{Laid, then, segment, lay, segmentRole, spread, least, layS}
 use Rattle.promises.specs.Lists.{Every}
-use Rattle.promises.specs.WritingLaws.{segment-length, least-of, least-five}
+use Rattle.promises.specs.WritingLaws.{segment-length, goes-on}
 
 -- blocks from one of which `room` bytes are left: all are full, but the last lacks u
 abbrev pub Sizes : ℕ → ℕ → List ℕ → List (List ℕ) → ℕ → Type 0
@@ -52,12 +51,7 @@ spread-size B more k (suc n) begun room body hn hl hr =
         let l : length (segment (segmentRole begun true) body) ≡ 5 + length body = segment-length (segmentRole begun true) body in
         rw q (sizes-then B room (5 + length body) (segment (segmentRole begun true) body) (more (room - (5 + length body))) l fits (k (room - (5 + length body)) (omega arith)))
     go false q ih =
-        let over-room : room < 5 + length body = leb-false (5 + length body) room q in
-        let five : 5 ≤ least body = least-five body in
-        let six : least body ≡ 6 = least-of body (omega arith) in
-        let lc : length (take (room - 5) body) ≡ room - 5 = length-take-le (room - 5) body (omega arith) in
-        let lr : length (drop (room - 5) body) ≡ length body - (room - 5) = length-drop (room - 5) body in
-        let six′ : least (drop (room - 5) body) ≡ 6 = least-of (drop (room - 5) body) (omega arith) in
+        let on = goes-on room body (leb-false (5 + length body) room q) hl in
         let l : length (segment (segmentRole begun false) (take (room - 5) body)) ≡ 5 + length (take (room - 5) body) = segment-length (segmentRole begun false) (take (room - 5) body) in
         rw q (omega arith, ih (drop (room - 5) body) (omega arith) (omega arith))
 

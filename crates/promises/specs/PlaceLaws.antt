@@ -10,11 +10,12 @@ use lib.Dec.{leb, ltb}
 use native.Mathlib.Omega.{arith}
 use native.Mathlib.Nat.{zero-mod, add-mod-right}
 use borrow.Author.Tests.{lt-ltb, le-leb, eq-eqb, ltb-false, leb-true, ltb-true}
-use Rattle.standard.specs.Records.{Mode, plain, salvage, File, Met, took, gapped, ended, refused, State, fresh, marked, within, Move, deliver, carry, breach, meet, atLost, afterMove, answer, entering, step, aligned, inFile}
+use Rattle.standard.specs.Records.{Mode, plain, salvage, File, Record, refuse20, refuse21, refuse22, Met, took, gapped, ended, refused, State, fresh, marked, within, Move, deliver, carry, breach, meet, atLost, afterMove, answer, entering, step, aligned, inFile}
 use Rattle.standard.specs.Places.{start}
 use Rattle.standard.specs.Pieces.{Block, lostBlock, held, sizeOf, Role, Piece, blank, broken, piece, lookF, lookIn, look, Token, part, bad, lost, tokensAt, pieces, inBlock, inBlocks, fromTail, ahead}
 use Rattle.standard.specs.Labels.{Format, fixed, variable, spanned, Params}
 use Rattle.standard.specs.declared.Place.{Place}
+use Rattle.standard.specs.declared.Refusal.{Refusal}
 use Rattle.promises.specs.Basics.{cond-elim, and-l, and-r}
 use Rattle.promises.specs.Lists.{Every, every-append}
 use Rattle.promises.specs.PiecesLaws.{Sound, look-sound, pieces-eq, drop-tail}
@@ -37,24 +38,32 @@ Landed f (gapped b pl) = inFile f pl ≡ true
 Landed f ended = Unit {0}
 Landed f (refused x) = Unit {0}
 
-move-lands : (f : File) (mv : Move) (b o e : ℕ) (more : State → Met) → InFile f b e → ((st : State) → Landed f (more st)) → Landed f (afterMove mv b o e more)
-move-lands f (deliver body g) b o e more h k = h false
-move-lands f (carry st) b o e more h k = k st
-move-lands f breach b o e more h k = tt
+-- A PROPERTY OF WHAT IS MET: an answer has it if the end and every refusal do, each record that a token completes, and each gap that a token gives
+module _ (Q : Met → Type 0) (C : Token → Type 0) (at-end : Q ended) (at-refusal : (x : Refusal) → Q (refused x))
+    (at-record : (k : Role) (body : List ℕ) (b o e : ℕ) → C (part k body b o e) → (r : Record) → Q (took r (at b e false)))
+    (at-gap : (b : ℕ) → C (lost b) → Q (gapped b (at (suc b) 0 true))) where
+  move-holds : (mv : Move) (b o e : ℕ) (more : State → Met) → ((r : Record) → Q (took r (at b e false))) → ((st : State) → Q (more st))
+      → Q (afterMove mv b o e more)
+  move-holds (deliver body g) b o e more h k = h (record { body = body; firstBlock = g; lastBlock = b })
+  move-holds (carry st) b o e more h k = k st
+  move-holds breach b o e more h k = at-refusal (refuse21 b o)
 
-lost-lands : (f : File) (m : Mode) (b : ℕ) → InFile f (suc b) 0 → Landed f (atLost m b)
-lost-lands f plain b h = tt
-lost-lands f salvage b h = h true
+  lost-holds : (m : Mode) (b : ℕ) → C (lost b) → Q (atLost m b)
+  lost-holds plain b h = at-refusal (refuse20 b)
+  lost-holds salvage b h = at-gap b h
+
+  pub answer-holds : (m : Mode) (p : Params) (ts : List Token) → Every C ts → (st : State) → Q (answer m p ts st)
+  unfolding answer
+  answer-holds m p [] v fresh = at-end
+  answer-holds m p [] v marked = at-end
+  answer-holds m p [] v (within acc g) = at-refusal refuse22
+  answer-holds m p (part k body b o e ∷ ts) v st =
+      move-holds (meet p st k body b) b o e (λ st′. answer m p ts st′) (at-record k body b o e (v .0)) (λ st′. answer-holds m p ts (v .1) st′)
+  answer-holds m p (bad b o ∷ ts) v st = at-refusal (refuse21 b o)
+  answer-holds m p (lost b ∷ ts) v st = lost-holds m b (v .0)
 
 answer-lands : (f : File) (m : Mode) (p : Params) (ts : List Token) → Every (Lands f) ts → (st : State) → Landed f (answer m p ts st)
-unfolding answer
-answer-lands f m p [] v fresh = tt
-answer-lands f m p [] v marked = tt
-answer-lands f m p [] v (within acc g) = tt
-answer-lands f m p (part k body b o e ∷ ts) v st =
-    move-lands f (meet p st k body b) b o e (λ st′. answer m p ts st′) (v .0) (λ st′. answer-lands f m p ts (v .1) st′)
-answer-lands f m p (bad b o ∷ ts) v st = tt
-answer-lands f m p (lost b ∷ ts) v st = lost-lands f m b (v .0)
+answer-lands f = answer-holds (Landed f) (Lands f) tt (λ x. tt) (λ k body b o e h r. h false) (λ b h. h true)
 
 -- ---- what makes a place one of the file
 

@@ -23,8 +23,8 @@ use Rattle.standard.specs.declared.Judged.the-variants.{Volume}
 use Rattle.promises.specs.Basics.{either, lt-or-le}
 use Rattle.promises.specs.ReadingLaws.{readAll-listed, Clean, bodyOf}
 use Rattle.promises.specs.Lists.{Every}
-use Rattle.promises.specs.Tokens.{At, From, pieces-at, blocks-from}
-use Rattle.promises.specs.SalvageLaws.{clean-no, clean-rec, clean-end}
+use Rattle.promises.specs.Tokens.{At, pieces-at, blocks-from}
+use Rattle.promises.specs.SalvageLaws.{clean-no, clean-rec, EndFrom, tokens-end}
 use Rattle.promises.specs.Following.{following, heard, Fits}
 use Rattle.promises.specs.Failing.{Failed, Spares, gone, ReadsWhole, Salvaged}
 use Rattle.promises.specs.FollowingLaws.{following-listed}
@@ -72,22 +72,10 @@ ended-out : (b : ℕ) (r : Record) (rs : List Record) → b ≤ r .lastBlock →
 unfolding endedBefore
 ended-out b r rs h = rw (le-ltb (r .lastBlock) b h)
 
-none-ended-move : (b b′ o : ℕ) (mv : Move) (more : State → List Item) (rs : List Record) → b ≤ b′ → Clean (joinMove mv b′ o more) rs
-    → ((st : State) (rs′ : List Record) → Clean (more st) rs′ → endedBefore b rs′ ≡ []) → endedBefore b rs ≡ []
-none-ended-move b b′ o (deliver body f) more rs l h ih =
-    let r : Record = record { body = body; firstBlock = f; lastBlock = b′ } in
-    let (rs′, e, c) = clean-rec r (more fresh) rs h in
-    ap (endedBefore b) e ∙ ended-out b r rs′ l ∙ ih fresh rs′ c
-none-ended-move b b′ o (carry st) more rs l h ih = ih st rs h
-none-ended-move b b′ o breach more rs l h ih = absurd (clean-no (refuse21 b′ o) rs h)
-
-none-ended : (p : Params) (b : ℕ) (ts : List Token) → Every (From b) ts → (st : State) (rs : List Record) → Clean (join plain p ts st) rs → endedBefore b rs ≡ []
-unfolding join endedBefore
-none-ended p b [] v st rs h = ap (endedBefore b) (clean-end st rs h .0)
-none-ended p b (part k body b′ o e ∷ ts) v st rs h =
-    none-ended-move b b′ o (meet p st k body b′) (λ st′. join plain p ts st′) rs (v .0) h (λ st′ rs′ c. none-ended p b ts (v .1) st′ rs′ c)
-none-ended p b (bad b′ o ∷ ts) v st rs h = absurd (clean-no (refuse21 b′ o) rs h)
-none-ended p b (lost b′ ∷ ts) v st rs h = absurd (clean-no (refuse20 b′) rs h)
+none-ended : (b : ℕ) (rs : List Record) → EndFrom b rs → endedBefore b rs ≡ []
+unfolding endedBefore
+none-ended b [] v = refl
+none-ended b (r ∷ rs) v = ended-out b r rs (v .0) ∙ none-ended b rs (v .1)
 
 -- ---- a block before the first one gone: both readers go through it alike
 module _ (p : Params) (a b : ℕ) (l : a < b) (ms ms′ : List Token)
@@ -128,7 +116,7 @@ module _ (gone : ℕ → Bool) (p : Params) (b : ℕ) (taken : gone b ≡ true) 
       (λ st′ rs′ c. blocks-cut xs (suc a) l (omega arith) st′ rs′ c) (pieces p a 0 c) (pieces-at p a 0 c) st rs h))
       (λ (l : b ≤ a).
       let e : a ≡ b = omega arith in
-      let none : endedBefore b rs ≡ [] = none-ended p b (inBlocks p a (held c ∷ xs)) (blocks-from p b a (held c ∷ xs) l) st rs h in
+      let none : endedBefore b rs ≡ [] = none-ended b rs (tokens-end p b (inBlocks p a (held c ∷ xs)) (blocks-from p b a (held c ∷ xs) l) st rs h) in
       rw (ap gone e ∙ taken, none, e))
 
 -- where no block is gone the file is as it was

@@ -15,7 +15,7 @@ use Rattle.standard.specs.Refusals.{refuse, given-when, inOrder, orElse}
 use Rattle.standard.specs.Judgement.{judged}
 use Rattle.standard.specs.Files.{openList, openRefusal, fileIn, blockCount}
 use Rattle.standard.specs.Pieces.{Block, lostBlock, held, Token, part, bad, lost, pieces, inBlock, inBlocks, fromTail, ahead}
-use Rattle.standard.specs.Records.{Mode, plain, salvage, File, Met, took, gapped, ended, refused, State, fresh, marked, within, Move, deliver, carry, breach, meet, atLost, afterMove, answer, step, inFile}
+use Rattle.standard.specs.Records.{Mode, File, Met, took, gapped, ended, refused, State, answer, step, inFile}
 use Rattle.standard.specs.Places.{endPlace}
 use Rattle.standard.specs.Reading.{Reply, unanswered, replied, replyIn, opened, reply, laidOver, readAnswer, outputAfter}
 use Rattle.standard.specs.Labels.{Params}
@@ -30,9 +30,10 @@ use Rattle.standard.specs.declared.Judged.the-variants.{Refused, Volume}
 use Rattle.standard.specs.declared.Answer.{Answer}
 use Rattle.standard.specs.declared.Answer.the-variants.{Unanswered, Record as RecordOf, Gap, End}
 use Rattle.promises.specs.Lists.{Every, every-append, every-map}
+use Rattle.promises.specs.Judging.{order-append}
 use Rattle.promises.specs.PiecesLaws.{drop-tail}
 use Rattle.promises.specs.Tokens.{At, pieces-at}
-use Rattle.promises.specs.PlaceLaws.{Landed, step-lands, drop-inside, in-start}
+use Rattle.promises.specs.PlaceLaws.{Landed, answer-holds, step-lands, drop-inside, in-start}
 use Rattle.promises.specs.SalvageImage.{file-count}
 use Rattle.promises.specs.Refusing.{Exactly, First, order-first, first-order, replyOn}
 use Rattle.promises.specs.Basics.{never}
@@ -58,12 +59,6 @@ placeList m f pl room = given-when (not (inFile f pl)) (refuse 19 0) ∷ metRefu
 -- THE LIST: "13-19, then 20-22 as blocks are met, 23 last"
 abbrev pub readList : Mode → Geometry → List ℕ → ℕ → Place → ℕ → List Checked
 readList m g image slot pl room = openList g image slot ++ placeList m (fileIn g image (labelAt g image slot)) pl room
-
-order-append : (xs ys : List Checked) → inOrder (xs ++ ys) ≡ orElse (inOrder xs) (inOrder ys)
-unfolding inOrder orElse
-order-append [] ys = refl
-order-append (Passed ∷ xs) ys = order-append xs ys
-order-append (Stopped r ∷ xs) ys = refl
 
 met-stops : (f : File) (room : ℕ) (s : Met) (r : Refusal) → Exactly (replied f room s .answer ≡ Unanswered r) (inOrder (metRefusal s ∷ tooSmall room s ∷ []) ≡ Stopped r)
 unfolding inOrder given-when
@@ -206,23 +201,8 @@ Gaps f (gapped b pl) = LostIn f b × (pl ≡ record { block = suc b; offset = 0;
 Gaps f ended = Unit {0}
 Gaps f (refused x) = Unit {0}
 
-move-gaps : (f : File) (mv : Move) (b o n : ℕ) (more : State → Met) → ((st : State) → Gaps f (more st)) → Gaps f (afterMove mv b o n more)
-move-gaps f (deliver body x) b o n more h = tt
-move-gaps f (carry st) b o n more h = h st
-move-gaps f breach b o n more h = tt
-
-lost-gaps : (f : File) (m : Mode) (b : ℕ) → LostIn f b → Gaps f (atLost m b)
-lost-gaps f plain b h = tt
-lost-gaps f salvage b h = (h, refl)
-
 answer-gaps : (f : File) (m : Mode) (p : Params) (ts : List Token) → Every (LostOne f) ts → (st : State) → Gaps f (answer m p ts st)
-unfolding answer
-answer-gaps f m p [] v fresh = tt
-answer-gaps f m p [] v marked = tt
-answer-gaps f m p [] v (within body x) = tt
-answer-gaps f m p (part k body b o n ∷ ts) v st = move-gaps f (meet p st k body b) b o n (λ st′. answer m p ts st′) (λ st′. answer-gaps f m p ts (v .1) st′)
-answer-gaps f m p (bad b o ∷ ts) v st = tt
-answer-gaps f m p (lost b ∷ ts) v st = lost-gaps f m b (v .0)
+answer-gaps f = answer-holds (Gaps f) (LostOne f) tt (λ x. tt) (λ k body b o e h r. tt) (λ b h. (h, refl))
 
 step-gaps : (m : Mode) (f : File) (pl : Place) → Gaps f (step m f pl)
 unfolding step ahead

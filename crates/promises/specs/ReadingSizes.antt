@@ -5,7 +5,7 @@ use mathlib.Core.Path.{_≡_, refl, sym, ap, subst, _∙_}
 use mathlib.Core.Bool.{Bool, true, false, cond, _&&_}
 use mathlib.Core.Option.{Option, none, some}
 use mathlib.Core.List.{List, [], _∷_, _++_}
-use lib.ListN.{length, getD, take, drop, length-take, length-drop, length-append}
+use lib.ListN.{length, getD, take, drop, length-drop, length-append}
 use lib.Seq.{getD-drop}
 use lib.Dec.{leb, ltb, eqb}
 use native.Mathlib.Omega.{arith}
@@ -30,14 +30,13 @@ use Rattle.standard.specs.declared.Judged.the-variants.{Refused, Volume}
 use Rattle.standard.specs.declared.Answer.{Answer}
 use Rattle.standard.specs.declared.Answer.the-variants.{Unanswered, Record as RecordOf, Gap, End}
 use Rattle.promises.specs.Basics.{cond-elim, by-test, and-l, and-r}
-use Rattle.promises.specs.Lists.{Every, every-append, every-drop}
+use Rattle.promises.specs.Lists.{Every, take-short, every-append, every-drop}
 use Rattle.promises.specs.PiecesLaws.{Sound, look-sound}
 use Rattle.promises.specs.Refusing.{replyOn}
 use Rattle.promises.specs.AddressLaws.{rank-lt}
-use Rattle.promises.specs.AcceptedLaws.{label-faultless, label-in-range}
-use Rattle.promises.specs.LabelRules.{rules, blocks-most}
+use Rattle.promises.specs.AcceptedLaws.{label-in-range}
 use Rattle.promises.specs.VolumeNumbers.{Numbers, numbers-of}
-use Rattle.promises.specs.FullBlocks.{count-held, content-fits, open-label, open-level, sound-file}
+use Rattle.promises.specs.FullBlocks.{count-held, content-fits, open-label, open-rules, block-low, sound-file}
 use Rattle.promises.specs.SalvageImage.{file-count}
 use Rattle.promises.specs.ExtentWhole.{extent-length}
 use Rattle.promises.specs.Sizes.{Small, small-one, volume-small, open-small, blocks-few, addresses-few, good-few}
@@ -48,26 +47,23 @@ Bodied blank = Unit {0}
 Bodied broken = Unit {0}
 Bodied (piece k body s) = length body ≤ s
 
-took-short : (n : ℕ) (xs : List ℕ) → length (take n xs) ≤ n
-took-short n xs = simp length-take (omega arith)
-
 fill-bodied : (rest : List ℕ) → Bodied (mustFill rest)
 fill-bodied rest = cond-elim Bodied (isFill rest) (λ _. tt) (λ _. tt)
 
 sizedV-bodied : (R : ℕ) (rest : List ℕ) (n : Option ℕ) → Bodied (sizedV R rest n)
 sizedV-bodied R rest none = tt
 sizedV-bodied R rest (some n) =
-    cond-elim Bodied (leb 4 n && leb n R && leb n (length rest)) (λ _. omega (arith, took-short (n - 4) (drop 4 rest))) (λ _. tt)
+    cond-elim Bodied (leb 4 n && leb n R && leb n (length rest)) (λ _. omega (arith, take-short (n - 4) (drop 4 rest))) (λ _. tt)
 
 sizedS-bodied : (rest : List ℕ) (k : Option Role) (n : Option ℕ) → Bodied (sizedS rest k n)
 sizedS-bodied rest none n = tt
 sizedS-bodied rest (some k) none = tt
-sizedS-bodied rest (some k) (some n) = cond-elim Bodied (leb 5 n && leb n (length rest)) (λ _. omega (arith, took-short (n - 5) (drop 5 rest))) (λ _. tt)
+sizedS-bodied rest (some k) (some n) = cond-elim Bodied (leb 5 n && leb n (length rest)) (λ _. omega (arith, take-short (n - 5) (drop 5 rest))) (λ _. tt)
 
 lookF-bodied : (R : ℕ) (rest : List ℕ) → Bodied (lookF R rest)
 unfolding lookF
 lookF-bodied R [] = tt
-lookF-bodied R (x ∷ xs) = cond-elim Bodied (leb 1 R && leb R (suc (length xs))) (λ _. took-short R (x ∷ xs)) (λ _. tt)
+lookF-bodied R (x ∷ xs) = cond-elim Bodied (leb 1 R && leb R (suc (length xs))) (λ _. take-short R (x ∷ xs)) (λ _. tt)
 
 lookIn-bodied : (f : Format) (R : ℕ) (bl : Bool) (o : ℕ) (rest : List ℕ) → Bodied (lookIn f R bl o rest)
 unfolding lookV lookS
@@ -297,7 +293,7 @@ module _ (g : Geometry) (image h : List ℕ) where
   unfolding blockOf
   block-small size more = by-test (anyFailed g image more)
       (λ e. rw e (omega arith))
-      (λ e. rw e (took-short size (bytesOf g image more)))
+      (λ e. rw e (take-short size (bytesOf g image more)))
 
   blocks-small : (n : ℕ) (xs : List Address)
       → Every (λ x. sizeOf x ≤ blockLength h) (blocksFrom g image h n xs) × (bytesOfAll (blocksFrom g image h n xs) ≤ n * blockLength h)
@@ -320,10 +316,7 @@ module _ (image : List ℕ) (g : Geometry) (j : judged image ≡ Volume g) (slot
   labels = open-label g image slot opens
 
   length-low : blockLength h ≤ 26624
-  length-low =
-      let r = rules g h (label-faultless image g slot j labels) (open-level g image slot opens) in
-      let d = mul-le-mul-right (g .P) (ns .sectors) in
-      omega (arith, blocks-most g h r, ns .size-high)
+  length-low = block-low g h ns (open-rules image g slot j opens)
 
   -- all blocks together are no more than the good records
   bytes-low : blockCount g image h * blockLength h ≤ 5111808

@@ -6,8 +6,7 @@ use Prim.Native.Nat.{ℕ, zero, suc}
 use mathlib.Core.Path.{_≡_, refl, sym, ap, subst, _∙_}
 use mathlib.Core.Bool.{Bool, true, false, cond}
 use mathlib.Core.List.{List, [], _∷_, _++_, append-assoc}
-use lib.ListN.{length, take, drop}
-use lib.Seq.{take-append-seam}
+use lib.ListN.{length, take}
 use lib.Dec.{ltb}
 use Rattle.standard.specs.Refusals.{refuse}
 use Rattle.standard.specs.Layout.{labelAt}
@@ -25,6 +24,7 @@ use Rattle.standard.specs.declared.Judged.{Judged}
 use Rattle.standard.specs.declared.Judged.the-variants.{Volume}
 use Rattle.standard.specs.declared.Answer.{Answer}
 use Rattle.standard.specs.declared.Answer.the-variants.{Unanswered, Record as RecordOf, Gap, End}
+use Rattle.promises.specs.FollowingLaws.{laid-record}
 use Rattle.promises.specs.Refusing.{replyOn}
 use Rattle.promises.specs.Basics.{never}
 
@@ -208,10 +208,6 @@ reply-taken image g j m slot pl room =
     let e : reply m image slot pl room ≡ opened (openRefusal g image slot) (replyIn m f pl room) = ap (λ (v : Judged). replyOn v m image slot pl room) j in
     subst (λ (y : Reply). Taken m f pl (y .answer) (y .body)) (sym e) (opened-taken m f pl (openRefusal g image slot) (replyIn m f pl room) (in-taken m f pl room))
 
-laid-first : (body out : List ℕ) → take (length body) (laidOver body out) ≡ body
-unfolding laidOver
-laid-first body out = take-append-seam body (drop (length body) out)
-
 -- NO RECORD IS EVER JOINED OUT OF TWO OTHERS: the bytes that a reading lays in the output are a record of the file, ahead of the place that was asked
 pub record-stands : (image : List ℕ) (g : Geometry) → judged image ≡ Volume g → (m : Mode) (slot : ℕ) (pl : Place) (out : List ℕ) (k : ℕ) (next : Place)
     → readAnswer m image slot pl out ≡ RecordOf k next
@@ -223,6 +219,6 @@ record-stands image g j m slot pl out k next h =
     let y : Taken m f pl (RecordOf k next) body = subst (λ (a : Answer). Taken m f pl a body) h (reply-taken image g j m slot pl (length out)) in
     let n : k ≡ length body = y .2 ∙ ap length (sym (y .1)) in (
       y .0,
-      ap (λ (i : ℕ). take i (laidOver body out)) n ∙ laid-first body out ∙ y .1,
+      ap (λ (i : ℕ). take i (laidOver body out)) n ∙ laid-record body out ∙ y .1,
       step-run m f pl (y .0) next (y .3),
     )

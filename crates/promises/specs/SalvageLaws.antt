@@ -40,6 +40,26 @@ clean-end fresh (r ∷ rs) h = let z : _≡_ {A = ℕ} 0 1 = cc in absurd (omega
 clean-end marked (r ∷ rs) h = let z : _≡_ {A = ℕ} 0 1 = cc in absurd (omega arith)
 clean-end (within acc f) (r ∷ rs) h = let z : _≡_ {A = ℕ} 0 1 = cc in absurd (omega arith)
 
+-- the records of tokens from block b on end in that block or behind it
+abbrev pub EndFrom : ℕ → List Record → Type 0
+EndFrom b rs = Every (λ r. b ≤ r .lastBlock) rs
+
+move-ends : (b b′ o : ℕ) (mv : Move) (more : State → List Item) (rs : List Record) → b ≤ b′ → Clean (joinMove mv b′ o more) rs
+    → ((st : State) (rs′ : List Record) → Clean (more st) rs′ → EndFrom b rs′) → EndFrom b rs
+move-ends b b′ o (deliver body f) more rs l h ih =
+    let (rs′, e, c) = clean-rec (record { body = body; firstBlock = f; lastBlock = b′ }) (more fresh) rs h in
+    rw e (l, ih fresh rs′ c)
+move-ends b b′ o (carry st) more rs l h ih = ih st rs h
+move-ends b b′ o breach more rs l h ih = absurd (clean-no (refuse21 b′ o) rs h)
+
+pub tokens-end : (p : Params) (b : ℕ) (ts : List Token) → Every (From b) ts → (st : State) (rs : List Record) → Clean (join plain p ts st) rs → EndFrom b rs
+unfolding join
+tokens-end p b [] v st rs h = rw (clean-end st rs h .0) tt
+tokens-end p b (part k body b′ o e ∷ ts) v st rs h =
+    move-ends b b′ o (meet p st k body b′) (λ st′. join plain p ts st′) rs (v .0) h (λ st′ rs′ c. tokens-end p b ts (v .1) st′ rs′ c)
+tokens-end p b (bad b′ o ∷ ts) v st rs h = absurd (clean-no (refuse21 b′ o) rs h)
+tokens-end p b (lost b′ ∷ ts) v st rs h = absurd (clean-no (refuse20 b′) rs h)
+
 -- ---- the expected list
 
 module _ (gone : ℕ → Bool) where
@@ -66,21 +86,10 @@ module _ (gone : ℕ → Bool) where
   due-gone b n r rs e s = rw (remains-skip n (suc b) r rs (omega arith), eq-eqb (r .lastBlock) b e, s)
 
   -- records of later blocks end in none before
-  none-ending-move : (b b′ o : ℕ) (mv : Move) (more : State → List Item) (rs : List Record) → b < b′ → Clean (joinMove mv b′ o more) rs
-      → ((st : State) (rs′ : List Record) → Clean (more st) rs′ → endingIn gone b rs′ ≡ []) → endingIn gone b rs ≡ []
-  none-ending-move b b′ o (deliver body f) more rs l h ih =
-      let (rs′, e, c) = clean-rec (record { body = body; firstBlock = f; lastBlock = b′ }) (more fresh) rs h in
-      rw (e, endingIn-skip b (record { body = body; firstBlock = f; lastBlock = b′ }) rs′ (λ q. omega arith)) (ih fresh rs′ c)
-  none-ending-move b b′ o (carry st) more rs l h ih = ih st rs h
-  none-ending-move b b′ o breach more rs l h ih = absurd (clean-no (refuse21 b′ o) rs h)
-
-  none-ending : (p : Params) (b : ℕ) (ts : List Token) → Every (From (suc b)) ts → (st : State) (rs : List Record) → Clean (join plain p ts st) rs → endingIn gone b rs ≡ []
-  unfolding join endingIn
-  none-ending p b [] v st rs h = rw (clean-end st rs h .0)
-  none-ending p b (part k body b′ o e ∷ ts) v st rs h =
-      none-ending-move b b′ o (meet p st k body b′) (λ st′. join plain p ts st′) rs (v .0) h (λ st′ rs′ c. none-ending p b ts (v .1) st′ rs′ c)
-  none-ending p b (bad b′ o ∷ ts) v st rs h = absurd (clean-no (refuse21 b′ o) rs h)
-  none-ending p b (lost b′ ∷ ts) v st rs h = absurd (clean-no (refuse20 b′) rs h)
+  none-ending : (b : ℕ) (rs : List Record) → EndFrom (suc b) rs → endingIn gone b rs ≡ []
+  unfolding endingIn
+  none-ending b [] v = refl
+  none-ending b (r ∷ rs) v = endingIn-skip b r rs (λ q. omega (arith, v .0)) ∙ none-ending b rs (v .1)
 
 -- ---- the two readings, side by side
 
@@ -291,7 +300,7 @@ block-thus gone p c xs ih false b g st st′ r rs h =
     rw g
     (held-alike gone p b (length xs) g ms (inBlocks p (suc b) (damage gone (suc b) xs))
     (λ st₁ st₂ r₁ rs₁ h₁.
-    rw (none-ending gone p b ms (blocks-from p (suc b) (suc b) xs (le-refl (suc b))) st₁ rs₁ h₁) (ih (suc b) st₁ st₂ (rel-next gone b g r₁) rs₁ h₁))
+    rw (none-ending gone b rs₁ (tokens-end p (suc b) ms (blocks-from p (suc b) (suc b) xs (le-refl (suc b))) st₁ rs₁ h₁)) (ih (suc b) st₁ st₂ (rel-next gone b g r₁) rs₁ h₁))
     (pieces p b 0 c) (pieces-at p b 0 c) r rs h)
 
 blocks-thus : (gone : ℕ → Bool) (p : Params) (xs : List Block) → Thus gone p xs

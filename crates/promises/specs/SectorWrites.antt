@@ -157,7 +157,7 @@ set-as-one g slot U e s k =
     let x = unusedField U in
     let y = fiveBytes e in
     let lx : length x ≡ 5 = unused-length U in
-    let ly : length y ≡ 5 = padded-length (addressNumber e) in
+    let ly : length y ≡ 5 = padded-length 5 (addressNumber e) in
     let lh : length h ≡ 128 = length-take-le 128 (drop o s) (omega (arith, length-drop o s)) in
     let l₁ = splice-length 57 x h (omega arith) in
     let l₂ = splice-length 74 y (splice 57 x h) (omega arith) in
@@ -332,7 +332,7 @@ module _ (image : List ℕ) (g : Geometry) (slot : ℕ) (bodies lengths : List �
       let o = labelOffset g slot in
       let lh : length (take 128 (drop o image)) ≡ 128 = length-take-le 128 (drop o image) (omega (arith, length-drop o image, image-length image g j)) in
       let x = unused-length U in
-      let y : length (fiveBytes e) ≡ 5 = padded-length (addressNumber e) in
+      let y : length (fiveBytes e) ≡ 5 = padded-length 5 (addressNumber e) in
       let l₁ = splice-length 57 (unusedField U) (take 128 (drop o image)) (omega arith) in
       let l₂ = splice-length 74 (fiveBytes e) (splice 57 (unusedField U) (take 128 (drop o image))) (omega arith) in
       (l₂ ∙ l₁ ∙ lh, room)

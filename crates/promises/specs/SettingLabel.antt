@@ -36,7 +36,7 @@ module _ (g : Geometry) (n : Numbers g) (slot : ℕ) (inside : slot ≤ slotCoun
   once-length = splice-length (at + 57) (unusedField U) s once-room
 
   twice-room : at + 74 + length (fiveBytes e) ≤ length once
-  twice-room = rw (padded-length (addressNumber e), once-length) (omega (arith, label-room g slot n inside))
+  twice-room = rw (padded-length 5 (addressNumber e), once-length) (omega (arith, label-room g slot n inside))
 
   pub set-length : length (setLabel g slot U e s) ≡ length s
   unfolding setLabel
@@ -45,12 +45,12 @@ module _ (g : Geometry) (n : Numbers g) (slot : ℕ) (inside : slot ≤ slotCoun
   pub set-outside : (i : ℕ) → Outside i (at + 57) 5 → Outside i (at + 74) 5 → getD (setLabel g slot U e s) i 0 ≡ getD s i 0
   unfolding setLabel
   set-outside i a b =
-      splice-outside (at + 74) (fiveBytes e) once twice-room i (rw (padded-length (addressNumber e)) b)
+      splice-outside (at + 74) (fiveBytes e) once twice-room i (rw (padded-length 5 (addressNumber e)) b)
       ∙ splice-outside (at + 57) (unusedField U) s once-room i (rw (unused-length U) a)
 
   pub set-end : take 5 (drop (at + 74) (setLabel g slot U e s)) ≡ fiveBytes e
   unfolding setLabel
-  set-end = rw (padded-length (addressNumber e)) at (splice-part (at + 74) (fiveBytes e) once twice-room)
+  set-end = rw (padded-length 5 (addressNumber e)) at (splice-part (at + 74) (fiveBytes e) once twice-room)
 
   pub set-unused : take 5 (drop (at + 57) (setLabel g slot U e s)) ≡ unusedField U
   unfolding setLabel

@@ -7,7 +7,7 @@ use mathlib.Core.List.{List, [], _∷_}
 use lib.ListN.{length}
 use lib.Dec.{leb, ltb, eqb}
 use native.Mathlib.Omega.{arith}
-use native.Mathlib.Nat.{mul-le-mul-right, mul-le-mul-left, le-div-iff-mul-le}
+use native.Mathlib.Nat.{mul-le-mul-right, mul-le-mul-left}
 use borrow.Author.Tests.{ltb-true, ltb-false, leb-true, lt-ltb, not-false}
 use Rattle.standard.specs.Layout.{sectorCount, indexSectors, slotCount, slotOrdinal, kindOffset, bodyOffset, labelOffset, labelAt, vol1Of, ermapOf}
 use Rattle.standard.specs.Characters.{field, between, spaces}
@@ -15,13 +15,13 @@ use Rattle.standard.specs.Rules.{Row, lowestFault}
 use Rattle.standard.specs.Volume.{vol1Rules}
 use Rattle.standard.specs.Defects.{ermapRule7, ermapRule11, ermapRules, defect1, defect2, isCylinder, cylinderIn}
 use Rattle.standard.specs.Addresses.{addressCount, ordinal}
-use Rattle.standard.specs.Labels.{blockLength, endOf, hdr1Rules, labelFault}
+use Rattle.standard.specs.Labels.{endOf, hdr1Rules, labelFault}
 use Rattle.standard.specs.Slots.{hasLabel, slotRefusal}
 use Rattle.standard.specs.Refusals.{refuse, refuseAt, given-when, inOrder}
 use Rattle.standard.specs.Judgement.{numbersIn, volumeOf, volumeList, refusal2, refusal3, refusal6, refusal7, refusal8to10, refusal11, refusal12, clashesFrom, shares, namesake, judged}
 use Rattle.standard.specs.Finding.{found}
 use Rattle.standard.specs.Free.{freeRecords, freeCount}
-use Rattle.standard.specs.Files.{extent, extentSize, isDefective, goodAmong, goodRecords, recordsToBlock, blockCount, refusal13, refusal17, countList, countOr, countRefusal, counted, openRefusal}
+use Rattle.standard.specs.Files.{extent, extentSize, isDefective, goodAmong, goodRecords, blockCount, refusal13, refusal17, countList, countOr, countRefusal, counted, openRefusal}
 use Rattle.standard.specs.declared.Geometry.{Geometry}
 use Rattle.standard.specs.declared.Address.{Address}
 use Rattle.standard.specs.declared.Refusal.{Refusal}
@@ -37,9 +37,9 @@ use Rattle.promises.specs.AddressLaws.{Legal, rank-lt}
 use Rattle.promises.specs.Tiling.{address-inside}
 use Rattle.promises.specs.Judging.{order-each, not-given, rows-each, accepted}
 use Rattle.promises.specs.AcceptedLaws.{has-slot, label-in-range}
-use Rattle.promises.specs.VolumeNumbers.{Numbers, of-rules, numbers-of, slot-in-index}
+use Rattle.promises.specs.VolumeNumbers.{Numbers, of-rules, numbers-of, ermap-right, slot-in-index}
 use Rattle.promises.specs.ExtentAddresses.{extent-legal}
-use Rattle.promises.specs.FullBlocks.{count-held}
+use Rattle.promises.specs.FullBlocks.{count-held, records-one}
 use Rattle.promises.specs.Refusing.{first-order, volume-first, volume-stops, count-first}
 use Rattle.promises.specs.FindingLaws.{find-named, find-none}
 use Rattle.promises.specs.PlacesNamed.{given-exactly, place-6, place-17, slots-first, clashes-first}
@@ -88,12 +88,9 @@ second-defect L e h = go (spaces (field e 11 13)) h
 pub defects-low : (image : List ℕ) (g : Geometry) → judged image ≡ Volume g → (g .d1 ≤ g .L) × (g .d2 ≤ g .L + 1)
 unfolding ermapRules numbersIn
 defects-low image g j =
-    let a = accepted image g j in
     let e = ermapOf image in
-    let n = not-given (ltb 0 (lowestFault (ermapRules (g .L) e))) _ (a .ermap) in
-    let z : lowestFault (ermapRules (g .L) e) ≡ 0 = omega (arith, ltb-false 0 (lowestFault (ermapRules (g .L) e)) n) in
-    let (r1, (r7, (r11, _))) = rows-each _ z refl in
-    subst (λ (x : Geometry). (x .d1 ≤ g .L) × (x .d2 ≤ g .L + 1)) (a .numbers) (first-defect (g .L) e r7, second-defect (g .L) e r11)
+    let (r1, (r7, (r11, _))) = rows-each _ (ermap-right image g j) refl in
+    subst (λ (x : Geometry). (x .d1 ≤ g .L) × (x .d2 ≤ g .L + 1)) (accepted image g j .numbers) (first-defect (g .L) e r7, second-defect (g .L) e r11)
 
 -- ---- the blocks of a file, and the free records
 pub addresses-few : (g : Geometry) → Numbers g → addressCount g ≤ 4992
@@ -107,12 +104,6 @@ good-few g image [] = omega arith
 good-few g image (a ∷ xs) =
     let k = good-few g image xs in
     cond-elim (λ (ys : List Address). length ys ≤ suc (length xs)) (isDefective g image a) {x = goodAmong g image xs} {y = a ∷ goodAmong g image xs} (λ _. omega arith) (λ _. omega arith)
-
-pub records-one : (g : Geometry) (h : List ℕ) → 0 < g .P → 1 ≤ recordsToBlock g h
-unfolding recordsToBlock
-records-one g h p = cond-elim (λ n. 1 ≤ n) (ltb (g .P) (blockLength h))
-    (λ e. le-div-iff-mul-le p .1 (omega (arith, ltb-true (g .P) (blockLength h) e)))
-    (λ _. omega arith)
 
 module _ (image : List ℕ) (g : Geometry) (j : judged image ≡ Volume g) where
   ns : Numbers g

@@ -2,21 +2,19 @@
 -- Assumes nothing.
 use Prim.Native.Nat.{ℕ, zero, suc, _+_, _-_, _*_, _<_, _≤_}
 use mathlib.Core.Path.{_≡_, refl, sym, ap, _∙_}
-use mathlib.Core.Bool.{Bool, true, false, cond}
+use mathlib.Core.Bool.{true}
 use mathlib.Core.Logic.{inl, inr}
 use mathlib.Core.List.{List, [], _∷_, _++_, append-assoc}
 use lib.ListN.{length, getD, take, drop, length-append}
 use lib.Seq.{length-take-le, take-at, drop-drop, drop-cons, take-suc, drop-append-add, ext-getD}
 use native.Mathlib.Omega.{arith}
 use native.Mathlib.Numerals.{add-one}
-use Rattle.standard.specs.Refusals.{refuse, orElse}
 use Rattle.standard.specs.Layout.{kAt, kindOffset, bodyOffset, imageLength}
 use Rattle.standard.specs.Addresses.{legal, ordinal, firstAddress}
 use Rattle.standard.specs.Packing.{fill}
-use Rattle.standard.specs.Writing.{total, parted, wrongLength, lengthsFrom, splice, filledTo, storeRecord, storeBlock, storeBlocks}
+use Rattle.standard.specs.Writing.{total, parted, splice, filledTo, storeRecord, storeBlock, storeBlocks}
 use Rattle.standard.specs.declared.Geometry.{Geometry}
 use Rattle.standard.specs.declared.Address.{Address}
-use Rattle.standard.specs.declared.Checked.the-variants.{Stopped}
 use Rattle.promises.specs.Basics.{either, lt-or-le}
 use Rattle.promises.specs.Tiling.{sectors-apart, address-size, address-room}
 use Rattle.promises.specs.Splices.{Outside, splice-length, splice-at, splice-outside, filled-length}
@@ -228,25 +226,3 @@ parted-take lengths i bodies h =
     ap (λ (n : ℕ). parted bodies (take n lengths)) (add-one i)
     ∙ ap (parted bodies) (take-suc lengths i 0 h)
     ∙ parted-more (take i lengths) (getD lengths i 0) bodies
-
--- 26 "record, from 0": the lengths one part after another; those from number i on
-pub lengths-append : (h : List ℕ) (i : ℕ) (xs ys : List ℕ) → lengthsFrom h i (xs ++ ys) ≡ orElse (lengthsFrom h i xs) (lengthsFrom h (i + length xs) ys)
-unfolding lengthsFrom orElse
-lengths-append h i [] ys = ap (λ (n : ℕ). lengthsFrom h n ys) (omega arith)
-lengths-append h i (n ∷ xs) ys = go (wrongLength h n) (lengths-append h (i + 1) xs ys)
-  where
-    go : (t : Bool) → lengthsFrom h (i + 1) (xs ++ ys) ≡ orElse (lengthsFrom h (i + 1) xs) (lengthsFrom h (i + 1 + length xs) ys)
-        → cond t (Stopped (refuse 26 i)) (lengthsFrom h (i + 1) (xs ++ ys))
-        ≡ orElse (cond t (Stopped (refuse 26 i)) (lengthsFrom h (i + 1) xs)) (lengthsFrom h (i + suc (length xs)) ys)
-    go true ih = refl
-    go false ih = ih ∙ ap (λ (k : ℕ). orElse (lengthsFrom h (i + 1) xs) (lengthsFrom h k ys)) (omega arith)
-
-pub lengths-next : (h lengths : List ℕ) (i : ℕ) → i < length lengths → wrongLength h (getD lengths i 0) ≡ false
-    → lengthsFrom h i (drop i lengths) ≡ lengthsFrom h (i + 1) (drop (i + 1) lengths)
-unfolding lengthsFrom
-lengths-next h lengths i l e = rw (drop-cons lengths i 0, add-one) (simp e)
-
-pub lengths-stop : (h lengths : List ℕ) (i : ℕ) → i < length lengths → wrongLength h (getD lengths i 0) ≡ true
-    → lengthsFrom h i (drop i lengths) ≡ Stopped (refuse 26 i)
-unfolding lengthsFrom
-lengths-stop h lengths i l e = rw (drop-cons lengths i 0) (simp e)

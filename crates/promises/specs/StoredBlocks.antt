@@ -4,7 +4,7 @@ use Prim.Native.Nat.{ℕ, zero, suc, _+_, _-_, _*_, _<_, _≤_}
 use mathlib.Core.Path.{_≡_, refl, sym, ap, _∙_}
 use mathlib.Core.Bool.{true, false}
 use mathlib.Core.List.{List, [], _∷_, _++_, map, append-assoc, append-nil}
-use lib.ListN.{length, take, drop, length-take, length-drop, take-append-drop}
+use lib.ListN.{length, take, drop, length-drop, take-append-drop}
 use lib.Seq.{take-all, take-append-seam, take-append-add, length-take-le}
 use native.Mathlib.Omega.{arith}
 use native.Mathlib.Nat.{not-suc-le-zero}
@@ -18,7 +18,7 @@ use Rattle.standard.specs.Writing.{filledTo, storeRecord, storeBlock, storeBloc
 use Rattle.standard.specs.declared.Geometry.{Geometry}
 use Rattle.standard.specs.declared.Address.{Address}
 use Rattle.promises.specs.Basics.{either, lt-or-le}
-use Rattle.promises.specs.Lists.{Every, every-take, every-drop, every-map}
+use Rattle.promises.specs.Lists.{Every, take-short, every-take, every-drop, every-map}
 use Rattle.promises.specs.Tiling.{addresses-apart}
 use Rattle.promises.specs.SectorLaws.{same-body, same-failed}
 use Rattle.promises.specs.ExtentAddresses.{Rising, Between, rising-every, rising-legal, rising-take, rising-drop}
@@ -66,7 +66,7 @@ module _ (g : Geometry) where
     one = storeRecord g (ordinal g a) (take (g .P) c) s
 
     pub small : length (take (g .P) c) ≤ g .P
-    small = omega (arith, length-take (g .P) c)
+    small = take-short (g .P) c
 
     pub one-whole : WholeImage g one
     one-whole = store-length g a (take (g .P) c) s (r .0) small l ∙ l

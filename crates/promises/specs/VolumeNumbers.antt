@@ -98,15 +98,18 @@ second-behind L e h p = go (spaces (field e 11 13)) (spaces (field e 7 9)) h p
         let lower : ltb (cylinderIn (field e 7 9)) (cylinderIn (field e 11 13)) ≡ true = search (and-l, and-r) depth 9 in
         ltb-true (cylinderIn (field e 7 9)) (cylinderIn (field e 11 13)) lower
 
+-- ERMAP of an accepted volume has no fault
+pub ermap-right : (image : List ℕ) (g : Geometry) → judged image ≡ Volume g → lowestFault (ermapRules (g .L) (ermapOf image)) ≡ 0
+ermap-right image g j =
+    let a = accepted image g j in
+    let n = not-given (ltb 0 (lowestFault (ermapRules (g .L) (ermapOf image)))) _ (a .ermap) in
+    omega (arith, ltb-false 0 (lowestFault (ermapRules (g .L) (ermapOf image))) n)
+
 pub defects-in-order : (image : List ℕ) (g : Geometry) → judged image ≡ Volume g → 0 < g .d2 → g .d1 < g .d2
 unfolding ermapRules numbersIn
 defects-in-order image g j =
-    let a = accepted image g j in
-    let e = ermapOf image in
-    let n = not-given (ltb 0 (lowestFault (ermapRules (g .L) e))) _ (a .ermap) in
-    let z : lowestFault (ermapRules (g .L) e) ≡ 0 = omega (arith, ltb-false 0 (lowestFault (ermapRules (g .L) e)) n) in
-    let (r1, (r7, (r11, _))) = rows-each _ z refl in
-    subst (λ (x : Geometry). 0 < x .d2 → x .d1 < x .d2) (a .numbers) (second-behind (g .L) e r11)
+    let (r1, (r7, (r11, _))) = rows-each _ (ermap-right image g j) refl in
+    subst (λ (x : Geometry). 0 < x .d2 → x .d1 < x .d2) (accepted image g j .numbers) (second-behind (g .L) (ermapOf image) r11)
 
 pub index-sectors : (g : Geometry) → Numbers g → 8 ≤ indexSectors g
 index-sectors g n = omega (arith, mul-le-mul-right (g .I) (n .side-low), n .index-low)

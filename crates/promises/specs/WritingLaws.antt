@@ -146,6 +146,29 @@ pub least-five : (body : List ℕ) → 5 ≤ least body
 least-five [] = omega arith
 least-five (x ∷ xs) = omega arith
 
+-- A SEGMENT THAT GOES ON: it "starts where 6 bytes are left", so it takes a byte or more; and a byte or more is left for the next block
+pub record GoesOn (room : ℕ) (body : List ℕ) : Type 0 where
+  pub over-room : room < 5 + length body
+  pub room-low : 6 ≤ room
+  pub here : least body ≡ 6
+  pub front : length (take (room - 5) body) ≡ room - 5
+  pub rest : length (drop (room - 5) body) ≡ length body - (room - 5)
+  pub next : least (drop (room - 5) body) ≡ 6
+
+pub goes-on : (room : ℕ) (body : List ℕ) → room < 5 + length body → least body ≤ room → GoesOn room body
+goes-on room body over-room h =
+    let five = least-five body in
+    let six = least-of body (omega arith) in
+    let lr = length-drop (room - 5) body in
+    record {
+      over-room = over-room;
+      room-low = omega arith;
+      here = six;
+      front = length-take-le (room - 5) body (omega arith);
+      rest = lr;
+      next = least-of (drop (room - 5) body) (omega arith);
+    }
+
 module _ (R : ℕ) (bl : Bool) (B : ℕ) (small : B < 10000) (more : ℕ → Laid) (xs : List (List ℕ))
     (k : (b o room : ℕ) → room ≤ B → ReadsFrom R bl b o (more room) fresh xs) where
   Spreads : ℕ → Type 0
@@ -163,14 +186,9 @@ module _ (R : ℕ) (bl : Bool) (B : ℕ) (small : B < 10000) (more : ℕ → Lai
       rw e (end-reads R bl b o (more (room - (5 + length body))) begun body xs st acc s (omega arith) v
       (λ o′. k b o′ (room - (5 + length body)) (omega arith)))
   spread-case n ih false begun room body e hn hl hr b o st acc s v =
-      let over-room : room < 5 + length body = leb-false (5 + length body) room e in
-      let five : 5 ≤ least body = least-five body in
-      let six : least body ≡ 6 = least-of body (omega arith) in
+      let on = goes-on room body (leb-false (5 + length body) room e) hl in
       let chunk : List ℕ = take (room - 5) body in
       let rest : List ℕ = drop (room - 5) body in
-      let lc : length chunk ≡ room - 5 = length-take-le (room - 5) body (omega arith) in
-      let lr : length rest ≡ length body - (room - 5) = length-drop (room - 5) body in
-      let six′ : least rest ≡ 6 = least-of rest (omega arith) in
       let la : length (acc ++ chunk) ≡ length acc + length chunk = length-append acc chunk in
       let lb : length (acc ++ body) ≡ length acc + length body = length-append acc body in
       let whole-is : (acc ++ chunk) ++ rest ≡ acc ++ body = append-assoc acc chunk rest ∙ ap (λ (l : List ℕ). acc ++ l) (take-append-drop (room - 5) body) in

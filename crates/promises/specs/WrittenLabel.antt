@@ -1,13 +1,12 @@
 -- The label after an accepted write: U and the data end as packed, and no rule broken.
 -- Assumes nothing.
-use Prim.Native.Nat.{ℕ, _/_, _%_, _<_, _≤_}
+use Prim.Native.Nat.{ℕ, _%_, _<_, _≤_}
 use mathlib.Core.Path.{_≡_, refl}
-use mathlib.Core.Bool.{Bool, true, false, cond, not, _&&_, _||_}
+use mathlib.Core.Bool.{Bool, true, false, not, _&&_, _||_}
 use mathlib.Core.List.{List}
 use lib.Dec.{ltb, eqb}
 use native.Mathlib.Omega.{arith}
-use native.Mathlib.Nat.{mul-le-mul-right, le-div-iff-mul-le}
-use borrow.Author.Tests.{ltb-true, lt-ltb, le-ltb, eq-eqb}
+use borrow.Author.Tests.{lt-ltb, le-ltb, eq-eqb}
 use Rattle.standard.specs.Characters.{field, spaces, digits}
 use Rattle.standard.specs.Layout.{labelAt}
 use Rattle.standard.specs.Addresses.{rank, before, addressIn, isDataEnd, fiveBytes}
@@ -22,8 +21,9 @@ use Rattle.standard.specs.declared.Judged.the-variants.{Volume}
 use Rattle.promises.specs.Basics.{or-right}
 use Rattle.promises.specs.Tiling.{lengths}
 use Rattle.promises.specs.AcceptedLaws.{label-faultless}
-use Rattle.promises.specs.LabelRules.{Rules, rules, blocks-most, fixed-format}
+use Rattle.promises.specs.LabelRules.{Rules, label-rules, fixed-format}
 use Rattle.promises.specs.VolumeNumbers.{numbers-of}
+use Rattle.promises.specs.FullBlocks.{block-low, records-one}
 use Rattle.promises.specs.ExtentAddresses.{good-rising}
 use Rattle.promises.specs.Digits.{five-digits, address-back, unused-legal, unused-back}
 use Rattle.promises.specs.PackedRecords.{Right, packed-right}
@@ -53,7 +53,7 @@ module _ (image : List ℕ) (g : Geometry) (slot : ℕ) (bodies lengths : List �
   old-right = label-faultless image g slot j (passing g image slot bodies lengths w .labelled)
 
   pub old-rules : Rules g h
-  old-rules = rules g h old-right (passing g image slot bodies lengths w .known)
+  old-rules = label-rules image g slot j (passing g image slot bodies lengths w .labelled) (passing g image slot bodies lengths w .known)
 
   pub packing-right : Right (formatOf h) (recordLength h) (isBlocked h) (blockLength h) (parted bodies lengths)
   packing-right =
@@ -64,27 +64,14 @@ module _ (image : List ℕ) (g : Geometry) (slot : ℕ) (bodies lengths : List �
   unfolding packing
   unused-below = packing-right .below
 
-  block-few : blockLength h < 100000
-  block-few =
-      let n = numbers-of image g j in
-      let d = mul-le-mul-right (g .P) (n .sectors) in
-      omega (arith, blocks-most g h old-rules, n .size-high)
-
   -- U, read back
   pub new-unused : unusedCount k ≡ U
   unfolding unusedCount
-  new-unused = rw (result-unused image g slot bodies lengths j w) (unused-back U (omega (arith, unused-below, block-few)))
+  new-unused = rw (result-unused image g slot bodies lengths j w) (unused-back U (omega (arith, unused-below, block-low g h (numbers-of image g j) old-rules)))
 
   -- m
   pub records-some : 1 ≤ recordsToBlock g h
-  unfolding recordsToBlock
-  records-some = go (ltb (g .P) (blockLength h)) refl
-    where
-      go : (t : Bool) → ltb (g .P) (blockLength h) ≡ t → 1 ≤ cond t (blockLength h / g .P) 1
-      go true q =
-          let l = ltb-true (g .P) (blockLength h) q in
-          le-div-iff-mul-le (numbers-of image g j .size-low) .1 (omega arith)
-      go false q = omega arith
+  records-some = records-one g h (numbers-of image g j .size-low)
 
   -- the data end
   pub ends : Ending g (startOf h) (endOf h) (recordsToBlock g h) (goodRecords g image h)

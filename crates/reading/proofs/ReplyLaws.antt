@@ -19,8 +19,7 @@ use Rattle.standard.specs.Reading.{Reply, unanswered, replied, replyIn, reply, 
 use Rattle.standard.specs.declared.Geometry.{Geometry}
 use Rattle.standard.specs.declared.Place.{Place}
 use Rattle.standard.specs.declared.Refusal.{Refusal}
-use Rattle.standard.specs.declared.Checked.{Checked}
-use Rattle.standard.specs.declared.Checked.the-variants.{Passed, Stopped}
+use Rattle.standard.specs.declared.Checked.the-variants.{Passed}
 use Rattle.standard.specs.declared.Judged.the-variants.{Refused, Volume}
 use Rattle.standard.specs.declared.Answer.{Answer}
 use Rattle.standard.specs.declared.Answer.the-variants.{Unanswered, Record as RecordOf}
@@ -29,12 +28,11 @@ use Rattle.promises.specs.SalvageImage.{file-count}
 use Rattle.labels.specs.Forms.{formatFor}
 use Rattle.labels.specs.declared.Form.{Form}
 use Rattle.labels.specs.declared.Form.the-variants.{Fixed, Variable, Spanned}
-use Rattle.opening.specs.Opened.{fileNumbers, openOr, openingIn, labelIn, fileOf, Opened, sizeAt, insideBy, Seated}
+use Rattle.opening.specs.Opened.{fileNumbers, openingIn, labelIn, fileOf, Opened, sizeAt, insideBy, Seated}
 use Rattle.opening.specs.declared.FileNumbers.{FileNumbers}
 use Rattle.opening.specs.declared.Seat.{Seat}
-use Rattle.opening.specs.declared.Opening.{Opening}
 use Rattle.opening.specs.declared.Opening.the-variants.{Shut, Open}
-use Rattle.opening.proofs.OpenedLaws.{facts, shut-of}
+use Rattle.opening.proofs.OpenedLaws.{facts, open-is, shut-of}
 use Rattle.blocks.proofs.CopyLaws.{paste-laid}
 use Rattle.walks.specs.Stands.{lengthOf, stateWith, metWith, measured, lengthIn, endedBy}
 use Rattle.walks.specs.Walks.{modeOf, metFrom, Walking, bodyAhead, Reached, grown, ReachedBy}
@@ -85,6 +83,13 @@ module _ (file : File) (room : ℕ) where
 nothing-laid : (out : List ℕ) → out ≡ laidOver [] out
 unfolding laidOver
 nothing-laid out = refl
+
+-- the answer and the output of a reply that is the same, and of one that refuses
+same-reply : {y z : Reply} (out after : List ℕ) (a : Answer) → y ≡ z → (a ≡ y .answer) × (after ≡ laidOver (y .body) out) → (a ≡ z .answer) × (after ≡ laidOver (z .body) out)
+same-reply out after a e h = subst (λ (x : Reply). (a ≡ x .answer) × (after ≡ laidOver (x .body) out)) e h
+
+refused-reply : {y : Reply} (out : List ℕ) (r : Refusal) → y ≡ unanswered r → (Unanswered r ≡ y .answer) × (out ≡ laidOver (y .body) out)
+refused-reply out r e = same-reply out out (Unanswered r) (sym e) (refl, nothing-laid out)
 
 module _ (image : List ℕ) (f : FileNumbers) (o : Opened image f) (out : List ℕ) where
   counted-blocks : length (fileOf image f .blocks) ≡ f .count
@@ -205,16 +210,14 @@ module _ (m : Mode) (file : File) (pl : Place) (room : ℕ) where
 
 pub answer-19 : (m : Mode) (file : File) (pl : Place) (out : List ℕ) → inFile file pl ≡ false
     → (Unanswered (refuse 19 0) ≡ replyIn m file pl (length out) .answer) × (out ≡ laidOver (replyIn m file pl (length out) .body) out)
-answer-19 m file pl out h =
-    let e = reply-19 m file pl (length out) h in
-    (sym (ap (λ (r : Reply). r .answer) e), nothing-laid out ∙ sym (ap (λ (r : Reply). laidOver (r .body) out) e))
+answer-19 m file pl out h = refused-reply out (refuse 19 0) (reply-19 m file pl (length out) h)
 
 pub answer-step : (image : List ℕ) (f : FileNumbers) (m : Mode) (pl : Place) (met : Met) (out after : List ℕ) (a : Answer) → inFile (fileOf image f) pl ≡ true
     → met ≡ step m (fileOf image f) pl → Answers image f met out after a
     → (a ≡ replyIn m (fileOf image f) pl (length out) .answer) × (after ≡ laidOver (replyIn m (fileOf image f) pl (length out) .body) out)
 answer-step image f m pl met out after a i e h =
     let r = ap (replied (fileOf image f) (length out)) e ∙ sym (reply-step m (fileOf image f) pl (length out) i) in
-    (h .0 ∙ ap (λ (x : Reply). x .answer) r, h .1 ∙ ap (λ (x : Reply). laidOver (x .body) out) r)
+    same-reply out after a r h
 
 pub step-from : (image : List ℕ) (f : FileNumbers) (s : Bool) (w : Walk) (format : Format) → format ≡ fileOf image f .params .format
     → stateWith [] (w .stand) ≡ entering (modeOf s) format (w .place .offset) (w .place .mark)
@@ -230,24 +233,15 @@ unfolding fileIn
 format-is image f o = facts image f o .format
 
 -- A SLOT OF ANY IMAGE
-abbrev numbersIn : Opening → FileNumbers → FileNumbers
-numbersIn (Shut r) f = f
-numbersIn (Open f) e = f
-
 numbers-own : (image : List ℕ) (g : Geometry) (slot : ℕ) → (fileNumbers g image slot .g ≡ g) × (fileNumbers g image slot .slot ≡ slot)
 unfolding fileNumbers
 numbers-own image g slot = (refl, refl)
 
 open-same : (image : List ℕ) (g : Geometry) (slot : ℕ) (f : FileNumbers) → openingIn g image slot ≡ Open f → (f .g ≡ g) × (f .slot ≡ slot) × (openRefusal g image slot ≡ Passed)
-unfolding openingIn
-open-same image g slot f e = go (openRefusal g image slot) refl e
-  where
-    go : (c : Checked) → openRefusal g image slot ≡ c → openOr c (fileNumbers g image slot) ≡ Open f → (f .g ≡ g) × (f .slot ≡ slot) × (openRefusal g image slot ≡ Passed)
-    go Passed k e =
-        let q : f ≡ fileNumbers g image slot = ap (λ (x : Opening). numbersIn x f) (sym e) in
-        let own = numbers-own image g slot in
-        (ap (λ (x : FileNumbers). x .g) q ∙ own .0, ap (λ (x : FileNumbers). x .slot) q ∙ own .1, k)
-    go (Stopped r) k e = never (cc)
+open-same image g slot f e =
+    let o = open-is image g slot f e in
+    let own = numbers-own image g slot in
+    (ap (λ (x : FileNumbers). x .g) (o .1) ∙ own .0, ap (λ (x : FileNumbers). x .slot) (o .1) ∙ own .1, o .0)
 
 module _ (m : Mode) (image : List ℕ) (slot : ℕ) (pl : Place) (room : ℕ) where
   pub reply-refused : (r : Refusal) → judged image ≡ Refused r → reply m image slot pl room ≡ unanswered r
@@ -266,20 +260,16 @@ module _ (m : Mode) (image : List ℕ) (slot : ℕ) (pl : Place) (room : ℕ) wh
 
 -- and the answer and the output of each
 module _ (m : Mode) (image : List ℕ) (slot : ℕ) (pl : Place) (out : List ℕ) where
-  stopped : (r : Refusal) → reply m image slot pl (length out) ≡ unanswered r
-      → (Unanswered r ≡ readAnswer m image slot pl out) × (out ≡ outputAfter m image slot pl out)
-  stopped r e = (sym (ap (λ (x : Reply). x .answer) e), nothing-laid out ∙ sym (ap (λ (x : Reply). laidOver (x .body) out) e))
-
   pub answer-refused : (r : Refusal) → judged image ≡ Refused r → (Unanswered r ≡ readAnswer m image slot pl out) × (out ≡ outputAfter m image slot pl out)
-  answer-refused r j = stopped r (reply-refused m image slot pl (length out) r j)
+  answer-refused r j = refused-reply out r (reply-refused m image slot pl (length out) r j)
 
   pub answer-shut : (g : Geometry) (r : Refusal) → judged image ≡ Volume g → openingIn g image slot ≡ Shut r
       → (Unanswered r ≡ readAnswer m image slot pl out) × (out ≡ outputAfter m image slot pl out)
-  answer-shut g r j e = stopped r (reply-shut m image slot pl (length out) g r j e)
+  answer-shut g r j e = refused-reply out r (reply-shut m image slot pl (length out) g r j e)
 
   pub answer-open : (g : Geometry) (f : FileNumbers) (a : Answer) (after : List ℕ) → judged image ≡ Volume g → openingIn g image slot ≡ Open f
       → (a ≡ replyIn m (fileOf image f) pl (length out) .answer) × (after ≡ laidOver (replyIn m (fileOf image f) pl (length out) .body) out)
       → (a ≡ readAnswer m image slot pl out) × (after ≡ outputAfter m image slot pl out)
   answer-open g f a after j e h =
       let r = sym (reply-open m image slot pl (length out) g f j e) in
-      (h .0 ∙ ap (λ (x : Reply). x .answer) r, h .1 ∙ ap (λ (x : Reply). laidOver (x .body) out) r)
+      same-reply out after a r h

@@ -30,7 +30,6 @@ ghost use mathlib.Core.List.{[]};
 ghost use Prim.Native.Nat.{_+_, _-_, _<_, _≤_};
 ghost use lib.ListN.{length};
 ghost use lib.Seq.{paste};
-ghost use Rattle.standard.specs.Refusals.{refuse};
 ghost use Rattle.standard.specs.Records.{plain, salvage, entering};
 ghost use Rattle.standard.specs.Reading.{replyIn, readAnswer, laidOver, outputAfter};
 ghost use Rattle.labels.specs.Forms.{formatFor};
@@ -113,12 +112,7 @@ fn answered(count: u64, x: Measured, room: u64) -> Answer
     match x {
         Measured::Took(length, first, place) => {
             if room < length {
-                return Answer::Unanswered(Refusal {
-                    number: 23,
-                    first: length,
-                    second: 0,
-                    third: 0,
-                });
+                return Answer::Unanswered(Refusal::at(23, length));
             }
             Answer::Record(length, place)
         }
@@ -239,12 +233,7 @@ pub fn read_on(
 {
     if !in_file(f, place) {
         return Heard {
-            answer: Answer::Unanswered(Refusal {
-                number: 19,
-                first: 0,
-                second: 0,
-                third: 0,
-            }),
+            answer: Answer::Unanswered(Refusal::at(19, 0)),
             seat: seat,
         };
     }

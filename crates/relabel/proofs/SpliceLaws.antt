@@ -41,7 +41,7 @@ put-splice : {out out′ : List ℕ} {at r : ℕ} {text : List ℕ} → Puts out
 put-splice {out = out} {at = at} {text = text} p h = p .stands ∙ laid-splice out at text h
 
 pub put-five : {out out′ : List ℕ} {at r : ℕ} (n : ℕ) → Puts out out′ at r (padded 5 n) → at + 5 ≤ length out → out′ ≡ splice at (padded 5 n) out
-put-five n p h = put-splice p (rw (padded-length n) h)
+put-five n p h = put-splice p (rw (padded-length 5 n) h)
 
 -- "U (spaces for 0)"
 pub put-none : {out out′ : List ℕ} {at r : ℕ} (U : ℕ) → Puts out out′ at r (bytes "     ") → U ≡ 0 → at + 5 ≤ length out → out′ ≡ splice at (unusedField U) out

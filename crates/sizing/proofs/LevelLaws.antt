@@ -1,9 +1,9 @@
 -- One length more: what the loops over a list of lengths keep.
 -- Assumes nothing.
 use Prim.Native.Nat.{ℕ, zero, suc, _+_, _-_, _<_, _≤_}
-use mathlib.Core.Path.{_≡_, refl, sym, ap, subst, _∙_}
-use mathlib.Core.Bool.{Bool, true, false}
-use mathlib.Core.List.{List}
+use mathlib.Core.Path.{_≡_, refl, sym, ap, _∙_}
+use mathlib.Core.Bool.{Bool, true, false, cond}
+use mathlib.Core.List.{List, [], _∷_}
 use lib.ListN.{length, getD, drop, drop-of-length-le}
 use lib.Seq.{drop-cons}
 use lib.Dec.{eqb}
@@ -12,13 +12,14 @@ use native.Mathlib.Numerals.{add-one}
 use native.Mathlib.Nat.{not-suc-le-zero}
 use borrow.Author.Tests.{eq-eqb, ne-eqb, le-leb, lt-leb}
 use Rattle.standard.specs.Refusals.{refuse}
-use Rattle.standard.specs.Labels.{Format}
-use Rattle.standard.specs.Writing.{total, wrongIn}
+use Rattle.standard.specs.Labels.{Format, formatOf, blockLength, recordLength}
+use Rattle.standard.specs.Writing.{total, wrongIn, wrongLength, lengthsFrom}
+use Rattle.standard.specs.declared.Checked.{Checked}
 use Rattle.standard.specs.declared.Checked.the-variants.{Passed, Stopped}
 use Rattle.promises.specs.Basics.{either, eq-or-not}
-use Rattle.promises.specs.Lists.{every-drop}
+use Rattle.promises.specs.Lists.{every-at}
 use Rattle.promises.specs.StoreLaws.{total-drop}
-use Rattle.promises.specs.NeededLaws.{Level as LevelOf, levelOf, placedWhole, spreadTo, leastFor, placedSpanned, placed, levelFrom, FitsIn, EachFits}
+use Rattle.promises.specs.NeededLaws.{Level as LevelOf, levelOf, placedWhole, spreadTo, leastFor, placedSpanned, placed, levelFrom, level-next, least-most, six-left, FitsIn, EachFits}
 use Rattle.sizing.specs.Lists.{wrongFrom, Stands}
 use Rattle.sizing.specs.declared.Level.{Level}
 
@@ -38,7 +39,12 @@ sum-end lengths i left size h e =
     (λ (q : left ≡ 0). eq-eqb left 0 q ∙ sym (eq-eqb (total lengths) size (omega arith)))
     (λ (q : left ≡ 0 → ⊥). ne-eqb left 0 q ∙ sym (ne-eqb (total lengths) size (λ (k : total lengths ≡ size). q (omega arith))))
 
--- ---- the first wrong length
+-- ---- the first wrong length: refusal 26 looks at the format, B and R alone
+pub wrong-is : (h : List ℕ) (i : ℕ) (lengths : List ℕ) → lengthsFrom h i lengths ≡ wrongFrom (formatOf h) (blockLength h) (recordLength h) i lengths
+unfolding lengthsFrom wrongFrom wrongLength
+wrong-is h i [] = refl
+wrong-is h i (n ∷ lengths) = ap (λ (c : Checked). cond (wrongLength h n) (Stopped (refuse 26 i)) c) (wrong-is h (i + 1) lengths)
+
 pub wrong-next : (f : Format) (B R : ℕ) (lengths : List ℕ) (i : ℕ) → i < length lengths → wrongIn f B R (getD lengths i 0) ≡ false
     → wrongFrom f B R i (drop i lengths) ≡ wrongFrom f B R (i + 1) (drop (i + 1) lengths)
 unfolding wrongFrom
@@ -54,41 +60,24 @@ unfolding wrongFrom
 wrong-none f B R lengths i h = ap (wrongFrom f B R i) (drop-of-length-le lengths h)
 
 -- ---- where a writer stands
-level-next : (f : Format) (bl : Bool) (B room blocks : ℕ) (lengths : List ℕ) (i : ℕ) → i < length lengths
-    → levelFrom f bl B room blocks (drop i lengths)
-    ≡ levelFrom f bl B (placed f bl B room blocks (getD lengths i 0) .room) (placed f bl B room blocks (getD lengths i 0) .blocks) (drop (i + 1) lengths)
-unfolding levelFrom
-level-next f bl B room blocks lengths i h =
-    let l : LevelOf = placed f bl B room blocks (getD lengths i 0) in
-    ap (levelFrom f bl B room blocks) (drop-cons lengths i 0 h) ∙ ap (λ (k : ℕ). levelFrom f bl B (l .room) (l .blocks) (drop k lengths)) (sym (add-one i))
-
 pub level-none : (f : Format) (bl : Bool) (B room blocks : ℕ) (lengths : List ℕ) (i : ℕ) → length lengths ≤ i → levelFrom f bl B room blocks (drop i lengths) ≡ levelOf room blocks
 unfolding levelFrom
 level-none f bl B room blocks lengths i h = ap (levelFrom f bl B room blocks) (drop-of-length-le lengths h)
 
 pub fits-at : (f : Format) (B : ℕ) (lengths : List ℕ) (i : ℕ) → i < length lengths → EachFits f B lengths → FitsIn f B (getD lengths i 0)
-fits-at f B lengths i h e = subst (EachFits f B) (drop-cons lengths i 0 h) (every-drop (FitsIn f B) i lengths e) .0
+fits-at f B lengths i h e = every-at (FitsIn f B) lengths e i h 0
 
 -- ---- one record of S
-pub least-pos : (n : ℕ) → 1 ≤ n → leastFor n ≡ 6
-least-pos zero h = absurd (not-suc-le-zero h)
-least-pos (suc n) h = refl
-
 pub least-none : (n : ℕ) → n ≤ 0 → leastFor n ≡ 5
 least-none zero h = refl
 least-none (suc n) h = absurd (not-suc-le-zero h)
 
-least-most : (n : ℕ) → (5 ≤ leastFor n) × (leastFor n ≤ 6)
-least-most zero = (omega arith, omega arith)
-least-most (suc n) = (omega arith, omega arith)
-
 -- where a segment does not end, it takes a byte at least; the next block has room for one
 pub takes-one : (B room n : ℕ) → room < 5 + n → leastFor n ≤ room → leastFor n ≤ B → (6 ≤ room) × (leastFor (n - (room - 5)) ≤ B)
 takes-one B room n l h hb =
-    let five = least-most n in
-    let six = least-pos n (omega arith) in
+    let on = six-left n room B l h hb in
     let more = least-most (n - (room - 5)) in
-    (omega arith, omega arith)
+    (on .0, omega arith)
 
 -- ---- one record
 pub whole-here : (B room blocks n : ℕ) → n ≤ room → placedWhole B room blocks n ≡ levelOf (room - n) blocks

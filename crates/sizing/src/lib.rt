@@ -7,7 +7,6 @@ ghost use mathlib.Core.Path.{_≡_};
 ghost use Prim.Native.Nat.{suc, _+_, _<_, _≤_};
 ghost use lib.Dec.{eqb};
 ghost use lib.ListN.{length};
-ghost use Rattle.standard.specs.Refusals.{refuse};
 ghost use Rattle.standard.specs.Writing.{total, wrongIn};
 ghost use Rattle.promises.specs.NeededLaws.{placedWhole, spreadTo, leastFor, placedSpanned, placed, levelFrom, FitsIn, EachFits};
 ghost use Rattle.labels.specs.Forms.{formatFor};
@@ -55,17 +54,6 @@ fn is_wrong(form: Form, B: u64, R: u64, n: u64) -> bool
     }
 }
 
-fn wrong_record(i: u64) -> Refusal
-    ensures { λ r. ⌜ r ≡ refuse 26 i ⌝ }
-{
-    Refusal {
-        number: 26,
-        first: i,
-        second: 0,
-        third: 0,
-    }
-}
-
 // Refusal 26: the first record whose length is wrong, from 0.
 pub fn first_wrong(form: Form, B: u64, R: u64, lengths: &[u32]) -> Checked
     ensures { λ r. ⌜ r ≡ wrongFrom (formatFor form) B R 0 (now (lengths .entry)) ⌝ }
@@ -73,7 +61,7 @@ pub fn first_wrong(form: Form, B: u64, R: u64, lengths: &[u32]) -> Checked
     let mut i = 0;
     while i < lengths.len() {
         if is_wrong(form, B, R, wide(lengths[i])) {
-            return Checked::Stopped(wrong_record(i as u64));
+            return Checked::Stopped(Refusal::at(26, i as u64));
         }
         i += 1;
     }

@@ -1,8 +1,8 @@
 -- The exits of `Address::step` and `Address::read`, as the code meets them.
 -- Assumes nothing.
 use Prim.Native.Nat.{ℕ, _+_, _<_, _≤_}
-use mathlib.Core.Path.{_≡_, refl}
-use mathlib.Core.Bool.{Bool, true, false, not, _&&_}
+use mathlib.Core.Path.{_≡_}
+use mathlib.Core.Bool.{true, false, not, _&&_, and-false}
 use mathlib.Core.List.{List}
 use lib.Dec.{ltb}
 use lib.ListN.{length, getD, List·getD-eq-default}
@@ -13,10 +13,6 @@ use Rattle.standard.specs.Addresses.{stepped, fiveDigits, addressIn, fiv
 use Rattle.standard.specs.declared.Geometry.{Geometry}
 use Rattle.standard.specs.declared.Address.{Address}
 use Rattle.standard.specs.declared.FiveDigits.the-variants.{NotDigits, Digits}
-
-and-no : (b : Bool) → (b && false) ≡ false
-and-no true = refl
-and-no false = refl
 
 pub to-sector : (g : Geometry) (a : Address) → a .sector < g .D
     → record { cylinder = a .cylinder; side = a .side; sector = a .sector + 1 } ≡ stepped g a
@@ -40,7 +36,7 @@ to-none g a h t l = simp (le-ltb (a .sector) (g .D) h, t, lt-leb (a .cylinder) (
 -- the exits of `Address::read`
 pub read-short : (f : List ℕ) → length f < 5 → NotDigits ≡ fiveRead f
 unfolding fiveRead fiveDigits isDigit
-read-short f h = rw (List·getD-eq-default f 0 {n = 4} (omega arith)) (simp (and-no (isDigit (getD f 0 0) && isDigit (getD f 1 0) && isDigit (getD f 2 0) && isDigit (getD f 3 0))))
+read-short f h = rw (List·getD-eq-default f 0 {n = 4} (omega arith)) (simp (and-false (isDigit (getD f 0 0) && isDigit (getD f 1 0) && isDigit (getD f 2 0) && isDigit (getD f 3 0))))
 
 pub read-no : (f : List ℕ) → not (fiveDigits f) ≡ true → NotDigits ≡ fiveRead f
 unfolding fiveRead

@@ -4,6 +4,7 @@ ghost use mathlib.Core.Path.{_≡_};
 ghost use Prim.Native.Nat.{_+_, _<_};
 ghost use lib.ListN.{getD};
 ghost use lib.Dec.{ltb};
+ghost use Rattle.standard.specs.Refusals.{refuse, refuseAt};
 ghost use Rattle.standard.specs.Characters.{isDigit, digitValue};
 ghost use Rattle.standard.specs.Addresses.{firstAddress, stepped, fiveDigits, twoDigits, addressIn, fiveRead};
 ghost use Rattle.standard.specs.Places.{start, behindAt, nextBlock, afterGap};
@@ -15,6 +16,28 @@ pub struct Refusal {
     pub first: u64,
     pub second: u64,
     pub third: u64,
+}
+
+// "A refusal returns number and place": every layer makes its refusals here.
+impl Refusal {
+    // With one place, 0 where the table names none.
+    pub fn at(number: u8, place: u64) -> Refusal
+        ensures { λ r. ⌜ r ≡ refuse number place ⌝ }
+    {
+        Refusal::within(number, place, 0)
+    }
+
+    // With two: "slot, position" and "block, offset".
+    pub fn within(number: u8, first: u64, second: u64) -> Refusal
+        ensures { λ r. ⌜ r ≡ refuseAt number first second ⌝ }
+    {
+        Refusal {
+            number: number,
+            first: first,
+            second: second,
+            third: 0,
+        }
+    }
 }
 
 // What a row of rules finds: nothing, or the first refusal.

@@ -1,6 +1,6 @@
 -- The digits of a number: from the front, how many, and how a number of no fixed width has them.
 -- Assumes nothing.
-use Prim.Native.Nat.{ℕ, zero, suc, _+_, _-_, _*_, _/_, _%_, _^_, _≤_, _<_}
+use Prim.Native.Nat.{ℕ, zero, suc, _+_, _-_, _*_, _/_, _^_, _≤_, _<_}
 use mathlib.Core.Path.{_≡_, refl, sym, ap, subst, _∙_}
 use mathlib.Core.List.{List, [], _∷_, _++_}
 use lib.ListN.{length, length-append}
@@ -19,10 +19,9 @@ padded-front zero n = refl
 padded-front (suc width) n = ap (λ (t : List ℕ). t ++ (digitOf n ∷ [])) (padded-front width (n / 10))
 
 pub padded-first : (width n : ℕ) → 0 < width → padded width n ≡ (digitOf (without (width - 1) n) ∷ padded (width - 1) n)
-padded-first width n h = ap (λ (w : ℕ). padded w n) (back width h) ∙ padded-front (width - 1) n
-  where
-    back : (m : ℕ) → 0 < m → m ≡ suc (m - 1)
-    back m h = omega arith
+padded-first width n h =
+    let e : width ≡ suc (width - 1) = omega arith in
+    ap (λ (w : ℕ). padded w n) e ∙ padded-front (width - 1) n
 
 pub without-more : (digits n : ℕ) → without (suc digits) n ≡ without digits (n / 10)
 unfolding without

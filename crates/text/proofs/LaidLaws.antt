@@ -5,7 +5,7 @@ use mathlib.Core.Path.{_≡_, refl, sym, ap, subst, _∙_}
 use mathlib.Core.List.{List, [], _∷_, _++_}
 use lib.ListN.{length, set, length-append}
 use native.Mathlib.Omega.{arith}
-use native.Mathlib.Nat.{not-suc-le-zero, le-of-suc-le-suc}
+use native.Mathlib.Nat.{not-suc-le-zero, le-of-suc-le-suc, zero-add, suc-add}
 use Rattle.text.specs.Laid.{laid, Puts}
 
 pub laid-length : (out : List ℕ) (at : ℕ) (text : List ℕ) → length (laid out at text) ≡ length out
@@ -43,14 +43,12 @@ more-here (x ∷ out) (c ∷ s) t = ap (λ (u : List ℕ). c ∷ u) (more-here o
 pub laid-more : (out : List ℕ) (at : ℕ) (s t : List ℕ) → laid (laid out at s) (at + length s) t ≡ laid out at (s ++ t)
 unfolding laid
 laid-more [] at s t = refl
-laid-more (x ∷ out) zero s t = ap (λ (n : ℕ). laid (laid (x ∷ out) 0 s) n t) (zero-plus (length s)) ∙ more-here (x ∷ out) s t
-  where
-    zero-plus : (n : ℕ) → 0 + n ≡ n
-    zero-plus n = omega arith
-laid-more (x ∷ out) (suc at) s t = ap (λ (n : ℕ). laid (laid (x ∷ out) (suc at) s) n t) (suc-plus at (length s)) ∙ ap (λ (u : List ℕ). x ∷ u) (laid-more out at s t)
-  where
-    suc-plus : (m n : ℕ) → suc m + n ≡ suc (m + n)
-    suc-plus m n = omega arith
+laid-more (x ∷ out) zero s t = ap (λ (n : ℕ). laid (laid (x ∷ out) 0 s) n t) (zero-add (length s)) ∙ more-here (x ∷ out) s t
+laid-more (x ∷ out) (suc at) s t = ap (λ (n : ℕ). laid (laid (x ∷ out) (suc at) s) n t) (suc-add at (length s)) ∙ ap (λ (u : List ℕ). x ∷ u) (laid-more out at s t)
+
+-- the same text, otherwise written
+pub puts-as : {out out′ : List ℕ} {at r : ℕ} {s t : List ℕ} → s ≡ t → Puts out out′ at r s → Puts out out′ at r t
+puts-as {out = out} {out′ = out′} {at = at} {r = r} e p = subst (λ (u : List ℕ). Puts out out′ at r u) e p
 
 -- What puts one text and then another puts both.
 pub puts-more : {out out′ out″ : List ℕ} {at r r′ : ℕ} {s t : List ℕ} → Puts out out′ at r s → Puts out′ out″ r r′ t → Puts out out″ at r′ (s ++ t)

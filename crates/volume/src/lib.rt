@@ -29,7 +29,7 @@ use standard::wide;
 ghost use mathlib.Core.Path.{_≡_};
 ghost use mathlib.Core.Bool.{cond};
 ghost use mathlib.Core.List.{[]};
-ghost use Prim.Native.Nat.{_+_, _-_, _*_, _<_, _≤_};
+ghost use Prim.Native.Nat.{_+_, _-_, _<_, _≤_};
 ghost use lib.ListN.{length};
 ghost use Rattle.standard.specs.Refusals.{refuse};
 ghost use Rattle.standard.specs.Rules.{lowestFault};
@@ -38,25 +38,13 @@ ghost use Rattle.standard.specs.Layout.{vol1Of, slotCount, imageLength, labelAt
 ghost use Rattle.standard.specs.Slots.{isLabel, hasLabel};
 ghost use Rattle.standard.specs.Files.{extentSize};
 ghost use Rattle.standard.specs.Judgement.{judged, volumeOf};
-ghost use Rattle.standard.specs.Finding.{isNamed, found, foundAt, foundFrom, foundSlot, labelNamed, labelInSlot};
+ghost use Rattle.standard.specs.Finding.{isNamed, found, foundAt, labelNamed, labelInSlot};
 ghost use Rattle.standard.specs.Free.{freeRecords, freeCount};
 ghost use Rattle.promises.specs.FreeLaws.{extentsBelow};
 ghost use Rattle.numbers.specs.Numbers.{bare};
 ghost use Rattle.index.specs.Whole.{Whole, Slotted};
 ghost use Rattle.volume.specs.Stages.{judgedFrom, refusalOf};
 ghost use Rattle.volume.specs.Slot.{slotNamed};
-
-// A refusal with one place.
-fn refused(number: u8, place: u64) -> Refusal
-    ensures { λ r. ⌜ r ≡ refuse number place ⌝ }
-{
-    Refusal {
-        number: number,
-        first: place,
-        second: 0,
-        third: 0,
-    }
-}
 
 // 8 to 12.
 fn judge_slots(g: Geometry, image: &[u8]) -> Judged
@@ -86,7 +74,7 @@ fn judge_defects(g: Geometry, image: &[u8]) -> Judged
     let e = index_body(image, 5);
     let fault = ermap_fault(wide(g.L), e);
     if 0 < fault {
-        return Judged::Refused(refused(7, fault));
+        return Judged::Refused(Refusal::at(7, fault));
     }
     judge_slots(with_defects(g, e), image)
 }
@@ -99,7 +87,7 @@ fn judge_sectors(g: Geometry, image: &[u8]) -> Judged
     let n = image.len() as u64;
     let m = image_length(g);
     if n != m {
-        return Judged::Refused(refused(5, 0));
+        return Judged::Refused(Refusal::at(5, 0));
     }
     let c = kinds(g, image);
     if let Checked::Stopped(r) = c {
@@ -116,11 +104,11 @@ fn judge_vol1(image: &[u8]) -> Judged
     let v = index_body(image, 7);
     let fault = vol1_fault(v);
     if 0 < fault {
-        return Judged::Refused(refused(3, fault));
+        return Judged::Refused(Refusal::at(3, fault));
     }
     let owner = wide(v[10]);
     if owner != 32 {
-        return Judged::Refused(refused(4, 11));
+        return Judged::Refused(Refusal::at(4, 11));
     }
     judge_sectors(vol1_numbers(v), image)
 }
@@ -130,13 +118,13 @@ pub fn judge(image: &[u8]) -> Judged
     ensures { λ r. ⌜ r ≡ judged (now (image .entry)) ⌝ }
 {
     if image.len() < 903 {
-        return Judged::Refused(refused(1, 0));
+        return Judged::Refused(Refusal::at(1, 0));
     }
     if index_kind(image, 5) != 0 {
-        return Judged::Refused(refused(2, 5));
+        return Judged::Refused(Refusal::at(2, 5));
     }
     if index_kind(image, 7) != 0 {
-        return Judged::Refused(refused(2, 7));
+        return Judged::Refused(Refusal::at(2, 7));
     }
     judge_vol1(image)
 }
@@ -147,7 +135,7 @@ pub fn refusal_of(j: Judged) -> Refusal
     ensures { λ r. ⌜ r ≡ refusalOf j ⌝ }
 {
     let Judged::Refused(r) = j else {
-        return refused(0, 0);
+        return Refusal::at(0, 0);
     };
     r
 }
@@ -197,7 +185,7 @@ fn slot_named(g: Geometry, image: &[u8], name: &[u8]) -> u64
 fn unfound() -> Found
     ensures { λ r. ⌜ r ≡ Found.Unfound (refuse 13 0) ⌝ }
 {
-    Found::Unfound(refused(13, 0))
+    Found::Unfound(Refusal::at(13, 0))
 }
 
 pub fn find(image: &[u8], name: &[u8]) -> Found

@@ -14,7 +14,7 @@ use pieces::look;
 use standard::Place;
 use standard::Refusal;
 ghost use mathlib.Core.Path.{_≡_};
-ghost use mathlib.Core.Bool.{true, false};
+ghost use mathlib.Core.Bool.{false};
 ghost use Prim.Native.Nat.{_+_, _-_, _*_, _<_, _≤_};
 ghost use lib.ListN.{length};
 ghost use Rattle.standard.specs.Labels.{spanned};
@@ -23,7 +23,7 @@ ghost use Rattle.standard.specs.Records.{overIn, refuse21};
 ghost use Rattle.labels.specs.Forms.{formatFor};
 ghost use Rattle.pieces.specs.Looks.{headOf};
 ghost use Rattle.walks.specs.Stands.{lengthOf, limitIn, joinedBy, droppedBy, meetBy, endedBy, lostBy};
-ghost use Rattle.walks.specs.Walks.{modeOf, Walking, Entered, restAt, seenAt, PartAt, limitBy, Turned};
+ghost use Rattle.walks.specs.Walks.{Walking, Entered, restAt, seenAt, PartAt, limitBy, Turned};
 
 // Where a reader stands: between records; at a block's start after a gap; inside a spanned record, with the length of its body so far and the block where
 // it began.
@@ -148,12 +148,7 @@ fn limit(form: Form, r: u64) -> u64
 fn broken_at(block: u64, offset: u64) -> Measured
     ensures { λ r. ⌜ r ≡ Measured.Failed (refuse21 block offset) ⌝ }
 {
-    Measured::Failed(Refusal {
-        number: 21,
-        first: block,
-        second: offset,
-        third: 0,
-    })
+    Measured::Failed(Refusal::within(21, block, offset))
 }
 
 // "file ends after a 1 or 2 not dropped"; else End
@@ -163,14 +158,7 @@ pub fn at_end(s: Stand) -> Measured
     match s {
         Stand::Fresh => Measured::Ended,
         Stand::Marked => Measured::Ended,
-        Stand::Within(length, first) => {
-            Measured::Failed(Refusal {
-                number: 22,
-                first: 0,
-                second: 0,
-                third: 0,
-            })
-        }
+        Stand::Within(length, first) => Measured::Failed(Refusal::at(22, 0)),
     }
 }
 
@@ -183,12 +171,7 @@ fn at_lost(salvage: bool, place: Place, count: u64) -> Measured
         let next = place.next_block(count);
         return Measured::Lost(next.after_gap());
     }
-    Measured::Failed(Refusal {
-        number: 20,
-        first: place.block,
-        second: 0,
-        third: 0,
-    })
+    Measured::Failed(Refusal::at(20, place.block))
 }
 
 // What stands at the place of a walk, in a block that is not lost.

@@ -7,7 +7,6 @@ use mathlib.Core.List.{List, [], _∷_}
 use lib.ListN.{length}
 use lib.Dec.{ltb, eqb}
 use native.Mathlib.Omega.{arith}
-use native.Mathlib.Nat.{mul-le-mul-right}
 use borrow.Author.Tests.{lt-ltb, le-ltb, eqb-true, eq-eqb, ne-eqb, not-false}
 use Rattle.standard.specs.Characters.{at}
 use Rattle.standard.specs.Refusals.{refuse, given-when, inOrder, orElse}
@@ -23,11 +22,11 @@ use Rattle.standard.specs.declared.Refusal.{Refusal}
 use Rattle.standard.specs.declared.Checked.{Checked}
 use Rattle.standard.specs.declared.Checked.the-variants.{Passed, Stopped}
 use Rattle.standard.specs.declared.Judged.the-variants.{Volume}
-use Rattle.promises.specs.Basics.{never}
-use Rattle.promises.specs.Judging.{not-given}
-use Rattle.promises.specs.LabelRules.{Rules, blocks-most}
+use Rattle.promises.specs.Judging.{order-append, else-both, not-given}
+use Rattle.promises.specs.LabelRules.{Rules, label-rules}
 use Rattle.promises.specs.VolumeNumbers.{numbers-of}
-use Rattle.promises.specs.NeededLaws.{levelFrom, EachFits, each-fits, label-rules}
+use Rattle.promises.specs.FullBlocks.{block-low}
+use Rattle.promises.specs.NeededLaws.{levelFrom, EachFits, each-fits, unused-counted, needed-level-is}
 use Rattle.labels.specs.Forms.{formIn, formatFor, format-back}
 use Rattle.labels.specs.declared.Form.{Form}
 use Rattle.extents.specs.Cursors.{goodFrom}
@@ -38,11 +37,10 @@ use Rattle.extents.proofs.SurveyLaws.{says}
 use Rattle.files.specs.Numbers.{numbersOf}
 use Rattle.files.specs.declared.Numbers.{Numbers}
 use Rattle.opening.specs.Opened.{isWhole, usableIn}
-use Rattle.opening.proofs.OpenLaws.{order-append}
 use Rattle.opening.proofs.OpenedLaws.{whole-only}
 use Rattle.sizing.specs.Lists.{wrongFrom, Stands}
 use Rattle.sizing.specs.declared.Level.{Level as CodeLevel}
-use Rattle.sizing.proofs.ListLaws.{wrong-is, unused-counted, needed-level-is}
+use Rattle.sizing.proofs.LevelLaws.{wrong-is}
 use Rattle.writing.specs.Plans.{planFor, planOf, planOr, planIn, fittedBy, levelOn, wrongBy, faultBy, draftRefusal}
 use Rattle.writing.specs.declared.Plan.{Plan}
 use Rattle.writing.specs.declared.Planned.the-variants.{Stop, Go}
@@ -86,11 +84,6 @@ order-cut Passed Passed (Stopped r) d = refl
 order-cut Passed Passed Passed Passed = refl
 order-cut Passed Passed Passed (Stopped r) = refl
 
-else-both : (a b : Checked) → orElse a b ≡ Passed → (a ≡ Passed) × (b ≡ Passed)
-unfolding orElse
-else-both Passed b e = (refl, e)
-else-both (Stopped r) b e = never (cc)
-
 plan-when : (t : Bool) (r : Refusal) (p : Plan) → planOr (given-when t r) p ≡ cond t (Stop r) (Go p)
 unfolding given-when
 plan-when true r p = refl
@@ -105,10 +98,8 @@ module _ (image : List ℕ) (g : Geometry) (slot : ℕ) (j : judged image ≡ Vo
   theRules : Rules g theLabel
   theRules = label-rules image g slot j l kn
 
-  pub block-low : blockLength theLabel < 65536
-  block-low =
-      let n = numbers-of image g j in
-      omega (arith, blocks-most g theLabel theRules, mul-le-mul-right (g .P) (n .sectors), n .size-high)
+  pub low : blockLength theLabel ≤ 26624
+  low = block-low g theLabel (numbers-of image g j) theRules
 
   -- what is asked before 27, in order
   abbrev faults : Checked
@@ -166,7 +157,7 @@ module _ (image : List ℕ) (g : Geometry) (slot : ℕ) (j : judged image ≡ Vo
 
     pub block-few : n .B < 65536
     unfolding numbersOf
-    block-few = rw en block-low
+    block-few = rw en (omega (arith, low))
 
     module _ (form : Form) (blocked : Bool) (ef : form ≡ formIn (formatOf theLabel)) (eb : blocked ≡ isBlocked theLabel) where
       format-is : formatFor form ≡ formatOf theLabel

@@ -7,8 +7,7 @@ use mathlib.Core.List.{List, [], _∷_}
 use lib.ListN.{length}
 use native.Mathlib.Omega.{arith}
 use borrow.Author.Tests.{eqb-true, not-false}
-use native.Mathlib.Nat.{mul-le-mul-right, div-le-self, le-div-iff-mul-le, div-add-mod'}
-use lib.Dec.{ltb}
+use native.Mathlib.Nat.{mul-le-mul-right, le-div-iff-mul-le, div-add-mod'}
 use Rattle.standard.specs.Layout.{labelAt}
 use Rattle.standard.specs.Labels.{Format, fixed, formatOf, isBlocked, blockLength, recordLength}
 use Rattle.standard.specs.Refusals.{refuse}
@@ -24,13 +23,14 @@ use Rattle.standard.specs.declared.Judged.the-variants.{Refused, Volume}
 use Rattle.standard.specs.declared.Checked.{Checked}
 use Rattle.standard.specs.declared.Written.{Written}
 use Rattle.standard.specs.declared.Written.the-variants.{Unwritten, Blocks}
-use Rattle.promises.specs.Basics.{cond-elim, never}
+use Rattle.promises.specs.Basics.{never}
 use Rattle.promises.specs.LabelRules.{Rules, Shape, shape, isF, isV, isS, block-fits, fixed-low, fixed-high, fixed-whole}
 use Rattle.promises.specs.Judging.{stop-first, stop-rest}
 use Rattle.promises.specs.Lists.{Every}
 use Rattle.promises.specs.AcceptedLaws.{image-length}
 use Rattle.promises.specs.AcceptedWrite.{passing, outcome-is, label-range, stored, stored-whole}
 use Rattle.promises.specs.VolumeNumbers.{numbers-of}
+use Rattle.promises.specs.FullBlocks.{records-few}
 use Rattle.promises.specs.PackedRecords.{Sized as SizedBlocks}
 use Rattle.promises.specs.StoredBlocks.{sizes-fitting}
 use Rattle.promises.specs.WrittenLabel.{old-rules, packing-right, records-some}
@@ -51,12 +51,8 @@ use Rattle.ending.proofs.EndSizes.{end-small}
 use Rattle.writing.specs.Plans.{planFor, planOf, planOr, planIn, Accepted}
 use Rattle.writing.specs.declared.Plan.{Plan}
 use Rattle.writing.specs.declared.Planned.{Planned}
-use Rattle.writing.proofs.PlanLaws.{block-low}
+use Rattle.writing.proofs.PlanLaws.{low}
 use Rattle.writing.specs.declared.Planned.the-variants.{Stop, Go}
-
-records-few : (g : Geometry) (h : List ℕ) → blockLength h < 65536 → recordsToBlock g h ≤ 65536
-unfolding recordsToBlock
-records-few g h b = cond-elim (λ n. n ≤ 65536) (ltb (g .P) (blockLength h)) (λ _. omega (arith, div-le-self (blockLength h) (g .P))) (λ _. omega arith)
 
 -- F: every record has R bytes, "a divisor of B"
 lengths-R : (h : List ℕ) → formatOf h ≡ fixed → (i : ℕ) (lengths : List ℕ) → lengthsFrom h i lengths ≡ Passed → Every (λ n. n ≡ recordLength h) lengths
@@ -113,7 +109,7 @@ module _ (g : Geometry) (image : List ℕ) (slot : ℕ) (bodies lengths : List �
       let k = passing g image slot bodies lengths w in (
         records-some image g slot bodies lengths j w,
         block-fits g theLabel r,
-        omega (arith, mul-le-mul-right (g .P) (records-few g theLabel (block-low image g slot j (k .labelled) (k .known) bodies lengths)), numbers-of image g j .size-high),
+        omega (arith, mul-le-mul-right (g .P) (records-few g theLabel (low image g slot j (k .labelled) (k .known) bodies lengths)), numbers-of image g j .size-high),
         subst (λ (f : Format). EachFits f (blockLength theLabel) lengths) (sym (format-back (formatOf theLabel))) (each-fits g theLabel r 0 lengths (k .fits)),
         tiled g theLabel lengths r (k .fits),
         k .sum,

@@ -33,7 +33,7 @@ ghost use mathlib.Core.Path.{_≡_};
 ghost use mathlib.Core.Bool.{true};
 ghost use Prim.Native.Nat.{_+_, _<_};
 ghost use lib.ListN.{length};
-ghost use Rattle.standard.specs.Refusals.{refuse, orElse};
+ghost use Rattle.standard.specs.Refusals.{orElse};
 ghost use Rattle.standard.specs.Layout.{labelAt};
 ghost use Rattle.standard.specs.Labels.{knownLevel, formatOf, blockLength};
 ghost use Rattle.standard.specs.Slots.{hasLabel};
@@ -64,18 +64,6 @@ pub enum Planned {
     Go(Plan),
 }
 
-// A refusal with one place.
-fn refusal(number: u8, place: u64) -> Refusal
-    ensures { λ r. ⌜ r ≡ refuse number place ⌝ }
-{
-    Refusal {
-        number: number,
-        first: place,
-        second: 0,
-        third: 0,
-    }
-}
-
 // The number of good records: where none is defective they need no counting.
 fn good_in(g: Geometry, image: &[u8], first: Cursor, whole: bool) -> u64
     requires { ⌜ (legalAt g first ≡ true) × (first .left < 4294967296) × (whole ≡ true → goodFrom g (now image) (first .left) (first .at) ≡ addressesFrom g (first .left) (first .at)) ⌝ }
@@ -92,7 +80,7 @@ fn list_fault(form: Form, B: u64, R: u64, size: u64, lengths: &[u32]) -> Checked
     ensures { λ r. ⌜ r ≡ faultBy (formatFor form) B R size (now (lengths .entry)) ⌝ }
 {
     if !sums_to(lengths, size) {
-        return Checked::Stopped(refusal(25, 0));
+        return Checked::Stopped(Refusal::at(25, 0));
     }
     first_wrong(form, B, R, lengths)
 }
@@ -102,7 +90,7 @@ fn next_fault(found: Condition, form: Form, B: u64, R: u64, size: u64, lengths: 
     ensures { λ r. ⌜ r ≡ orElse (wrongBy found) (faultBy (formatFor form) B R size (now (lengths .entry))) ⌝ }
 {
     match found {
-        Condition::Wrong(ordinal) => Checked::Stopped(refusal(17, ordinal)),
+        Condition::Wrong(ordinal) => Checked::Stopped(Refusal::at(17, ordinal)),
         Condition::Whole => list_fault(form, B, R, size, lengths),
         Condition::Holed => list_fault(form, B, R, size, lengths),
     }
@@ -134,7 +122,7 @@ fn fitted(
     let blocks = l.blocks;
     let held = good_in(g, image, first, whole) / m;
     if held < blocks {
-        return Planned::Stop(refusal(27, blocks));
+        return Planned::Stop(Refusal::at(27, blocks));
     }
     let end = data_end(g, image, start, end_of(h), first, whole, m, held, blocks);
     Planned::Go(Plan {
@@ -199,7 +187,7 @@ fn plan_in(g: Geometry, image: &[u8], slot: u64, bodies: &[u8], lengths: &[u32])
         Checked::Passed => {
             let h = label_at(g, image, slot);
             if wide(h[42]) == 80 {
-                return Planned::Stop(refusal(24, slot));
+                return Planned::Stop(Refusal::at(24, slot));
             }
             drafted(g, image, slot, h, bodies, lengths)
         }

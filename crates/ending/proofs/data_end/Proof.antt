@@ -6,7 +6,7 @@ use lib.ListN.{length}
 use native.Mathlib.Omega.{arith}
 use denote.Ref.{now}
 use Rattle.extents.specs.Cursors.{goodFrom}
-use Rattle.ending.proofs.EndLaws.{good-few, blocks-inside, end-start, end-next, end-past}
+use Rattle.ending.proofs.EndLaws.{good-most, blocks-inside, end-start, end-next, end-past}
 use borrow.Author.Needs.{needs}
 use Rattle.ending.proofs.data_end.Statement.{statement}
 use Rattle.ending.proofs.data_end.Tie as tie
@@ -22,7 +22,7 @@ mul-nth-good c =
     let p = c .before .before .before .pre in
     let good = goodFrom (x .g) (now (x .image)) (x .first .left) (x .first .at) in
     let few : x .blocks ≤ x .held = omega arith in
-    omega (arith, blocks-inside (x .blocks) (x .m) (length good) (p .3) (subst (λ (k : ℕ). x .blocks ≤ k) (p .4) few), good-few (x .g) (now (x .image)) (x .first .left) (x .first .at))
+    omega (arith, blocks-inside (x .blocks) (x .m) (length good) (p .3) (subst (λ (k : ℕ). x .blocks ≤ k) (p .4) few), good-most (x .g) (now (x .image)) (x .first .left) (x .first .at))
 
 nth-good-requires : tie.Need-nth-good-requires
 nth-good-requires c κs = search needs

@@ -2,15 +2,15 @@
 -- Assumes nothing.
 use native.Mathlib.Omega.{arith}
 use borrow.Author.Needs.{needs}
-use Rattle.fields.proofs.NumberLaws.{times-most}
+use native.Mathlib.Nat.{mul-le-mul-left}
 use Rattle.fields.proofs.times.Statement.{statement}
 use Rattle.fields.proofs.times.Tie as tie
 
 mul-result : tie.Need-mul-result
-mul-result c = omega (arith, times-most (c .args .a) (c .args .b) 255 (omega arith))
+mul-result c = omega (arith, mul-le-mul-left {m = c .args .b} {n = 255} (c .args .a) (omega arith))
 
 returns : tie.Need-returns
-returns c = (search needs, times-most _ _ _ (omega arith))
+returns c = (search needs, mul-le-mul-left _ (omega arith))
 
 pub times-spec : {M : Type 1} → statement M
 times-spec = tie.close (tie.spec mul-result returns)

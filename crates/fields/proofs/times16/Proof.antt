@@ -2,15 +2,15 @@
 -- Assumes nothing.
 use native.Mathlib.Omega.{arith}
 use borrow.Author.Needs.{needs}
-use Rattle.fields.proofs.NumberLaws.{times-most}
+use native.Mathlib.Nat.{mul-le-mul-left}
 use Rattle.fields.proofs.times16.Statement.{statement}
 use Rattle.fields.proofs.times16.Tie as tie
 
 mul-result : tie.Need-mul-result
-mul-result c = omega (arith, times-most (c .args .a) (c .args .b) 65536 (omega arith))
+mul-result c = omega (arith, mul-le-mul-left {m = c .args .b} {n = 65536} (c .args .a) (omega arith))
 
 returns : tie.Need-returns
-returns c = (search needs, times-most _ _ _ (omega arith))
+returns c = (search needs, mul-le-mul-left _ (omega arith))
 
 pub times16-spec : {M : Type 1} → statement M
 times16-spec = tie.close (tie.spec mul-result returns)

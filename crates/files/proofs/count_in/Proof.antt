@@ -3,6 +3,7 @@
 use mathlib.Core.Path.{sym, ap, _∙_}
 use borrow.Author.Tests.{not-true, not-false}
 use denote.Ref.{now}
+use Rattle.standard.specs.declared.Counted.the-variants.{Uncounted}
 use Rattle.standard.specs.Layout.{labelAt}
 use Rattle.standard.specs.Labels.{knownLevel}
 use Rattle.promises.specs.AcceptedLaws.{label-in-range}
@@ -21,13 +22,13 @@ use Rattle.files.proofs.count_in.Tie as tie
 has-label-requires : tie.Need-has-label-requires
 has-label-requires c κs = slotted-of (now (c .before .args .image)) (c .before .args .g) (c .before .pre)
 
-refused-requires : tie.Need-refused-requires
-refused-requires c κs = search needs
+at-requires : tie.Need-at-requires
+at-requires c κs = search needs
 
 returns : tie.Need-returns
 returns c =
     let x = c .before .before .before .before .args in
-    c .refused .ensures ∙ count-13 (x .g) (now (x .image)) (x .slot) (sym (c .before .before .has-label .ensures) ∙ not-true (c .before .before .has-label .result) (c .before .if1 .taken))
+    ap Uncounted (c .at .ensures) ∙ count-13 (x .g) (now (x .image)) (x .slot) (sym (c .before .before .has-label .ensures) ∙ not-true (c .before .before .has-label .result) (c .before .if1 .taken))
 
 label-at-requires : tie.Need-label-at-requires
 label-at-requires c κs =
@@ -39,8 +40,8 @@ label-at-requires c κs =
 known-level-requires : tie.Need-known-level-requires
 known-level-requires c κs = search needs
 
-refused-requires-2 : tie.Need-refused-requires-2
-refused-requires-2 c κs = search needs
+at-requires-2 : tie.Need-at-requires-2
+at-requires-2 c κs = search needs
 
 returns-2 : tie.Need-returns-2
 returns-2 c =
@@ -48,7 +49,7 @@ returns-2 c =
     let j = c .before .before .before .before .before .before .before .pre in
     let l = sym (c .before .before .before .before .before .has-label .ensures) ∙ not-false (c .before .before .before .before .before .has-label .result) (c .before .before .before .before .if1 .left) in
     let e = c .before .before .before .label-at .ensures .0 in
-    c .refused2 .ensures ∙ count-14 (x .g) (now (x .image)) (x .slot) l (ap knownLevel (sym e) ∙ sym (c .before .before .known-level .ensures) ∙ not-true (c .before .before .known-level .result) (c .before .if2 .taken))
+    ap Uncounted (c .at2 .ensures) ∙ count-14 (x .g) (now (x .image)) (x .slot) l (ap knownLevel (sym e) ∙ sym (c .before .before .known-level .ensures) ∙ not-true (c .before .before .known-level .result) (c .before .if2 .taken))
 
 numbers-of-requires : tie.Need-numbers-of-requires
 numbers-of-requires c κs = (c .before .before .label-at .ensures .1, numbers-of (now (c .before .before .before .before .before .before .args .image)) (c .before .before .before .before .before .before .args .g) (c .before .before .before .before .before .before .pre) .size-low)
@@ -79,11 +80,11 @@ count-in-spec =
     tie.close
     (tie.spec
     has-label-requires
-    refused-requires
+    at-requires
     returns
     label-at-requires
     known-level-requires
-    refused-requires-2
+    at-requires-2
     returns-2
     numbers-of-requires
     tally-requires

@@ -3,6 +3,7 @@
 use mathlib.Core.Path.{sym, ap, _∙_}
 use native.Mathlib.Omega.{arith}
 use denote.Ref.{now}
+use Rattle.standard.specs.declared.Counted.the-variants.{Uncounted}
 use Rattle.extents.proofs.CursorLaws.{legal-fewer}
 use Rattle.files.specs.Numbers.{endedBy}
 use Rattle.files.proofs.Laws.{tally-by}
@@ -13,8 +14,8 @@ use Rattle.files.proofs.tally_by.Tie as tie
 enum-known-found : tie.Need-enum-known-found
 enum-known-found c = search needs
 
-refused-requires : tie.Need-refused-requires
-refused-requires c κs = search needs
+at-requires : tie.Need-at-requires
+at-requires c κs = search needs
 
 enum-told : tie.Need-enum-told
 enum-told c = search needs
@@ -38,7 +39,7 @@ returns : tie.Need-returns
 returns c =
     let x = c .before .before .before .before .before .before .args in
     let p = c .before .before .before .before .before .before .pre in
-    c .refused .ensures ∙ sym (tally-by (x .g) (now (x .image)) (x .n) (x .slot) _ (sym (p .4) ∙ c .before .before .found .given .1))
+    ap Uncounted (c .at .ensures) ∙ sym (tally-by (x .g) (now (x .image)) (x .n) (x .slot) _ (sym (p .4) ∙ c .before .before .found .given .1))
 
 returns-2 : tie.Need-returns-2
 returns-2 c =
@@ -57,7 +58,7 @@ tally-by-spec =
     tie.close
     (tie.spec
     enum-known-found
-    refused-requires
+    at-requires
     enum-told
     ended-requires
     enum-told-2

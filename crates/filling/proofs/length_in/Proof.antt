@@ -8,7 +8,7 @@ use denote.Ref.{now}
 use borrow.Author.Needs.{needs}
 use Rattle.standard.specs.Characters.{padded}
 use Rattle.filling.proofs.PenLaws.{pen-room, part-lays}
-use Rattle.filling.proofs.WordLaws.{padded-length}
+use Rattle.promises.specs.Digits.{padded-length}
 use Rattle.filling.proofs.length_in.Statement.{statement}
 use Rattle.filling.proofs.length_in.Tie as tie
 
@@ -56,7 +56,7 @@ returns c =
     let x = c .before .before .before .before .before .before .before .args in
     let q = c .before .before .before .before .before .before .before .pre in
     let p = x .p in
-    let l : length (padded 4 (x .size)) ≡ 4 = padded-length (x .size) in
+    let l : length (padded 4 (x .size)) ≡ 4 = padded-length 4 (x .size) in
     part-lays (x .g) (now (x .image)) p (padded 4 (x .size)) (q .0) (omega (arith, l, q .1)) (c .before .before .before .before .wide16 .result) (c .before .before .lay-digits .last .0) (p .i + 4) (p .at + 4) (c .before .before .before .before .wide16 .ensures .0) (c .before .before .lay-digits .ensures) (omega (arith, l)) (omega (arith, l))
 
 pub length-in-spec : {M : Type 1} → statement M

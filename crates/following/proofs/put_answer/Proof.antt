@@ -2,8 +2,8 @@
 -- Assumes nothing.
 use native.Mathlib.Omega.{arith}
 use denote.Ref.{now}
-use Rattle.text.proofs.LaidLaws.{puts-more}
-use Rattle.following.proofs.Laws.{puts-as, no-longer, as-refused, as-record, as-gap, as-end}
+use Rattle.text.proofs.LaidLaws.{puts-as, puts-more}
+use Rattle.following.proofs.Laws.{no-longer, as-refused, as-record, as-gap, as-end}
 use borrow.Author.Needs.{needs}
 use Rattle.following.proofs.put_answer.Statement.{statement}
 use Rattle.following.proofs.put_answer.Tie as tie

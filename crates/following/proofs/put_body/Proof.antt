@@ -3,8 +3,8 @@
 use mathlib.Core.Path.{sym}
 use native.Mathlib.Omega.{arith}
 use denote.Ref.{now}
-use Rattle.text.proofs.LaidLaws.{puts-more, puts-none}
-use Rattle.following.proofs.Laws.{puts-as, body-none, body-some}
+use Rattle.text.proofs.LaidLaws.{puts-as, puts-more, puts-none}
+use Rattle.following.proofs.Laws.{body-none, body-some}
 use borrow.Author.Needs.{needs}
 use Rattle.following.proofs.put_body.Statement.{statement}
 use Rattle.following.proofs.put_body.Tie as tie

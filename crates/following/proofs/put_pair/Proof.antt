@@ -3,8 +3,7 @@
 use mathlib.Core.Path.{_≡_}
 use mathlib.Core.List.{[], _∷_}
 use native.Mathlib.Omega.{arith}
-use Rattle.text.proofs.LaidLaws.{puts-more}
-use Rattle.following.proofs.Laws.{puts-as}
+use Rattle.text.proofs.LaidLaws.{puts-as, puts-more}
 use Rattle.following.specs.Lines.{pairOf}
 use borrow.Author.Needs.{needs}
 use Rattle.following.proofs.put_pair.Statement.{statement}

@@ -4,8 +4,7 @@ use Prim.Native.Nat.{ℕ}
 use mathlib.Core.Path.{ap}
 use mathlib.Core.List.{_++_}
 use native.Mathlib.Omega.{arith}
-use Rattle.text.proofs.LaidLaws.{puts-more}
-use Rattle.following.proofs.Laws.{puts-as}
+use Rattle.text.proofs.LaidLaws.{puts-as, puts-more}
 use Rattle.standard.specs.Characters.{shown}
 use Rattle.following.specs.Lines.{spaced, placeFields}
 use borrow.Author.Needs.{needs}

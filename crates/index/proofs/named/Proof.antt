@@ -1,11 +1,12 @@
 -- `named` meets its contract: the row holds the beginnings of the names passed.
 -- Assumes nothing.
+use Rattle.standard.specs.declared.Checked.the-variants.{Stopped}
 use Rattle.index.proofs.ClashLaws.{from-start, from-stop, from-more, from-end}
 use Rattle.index.proofs.NameLaws.{keyed-more}
 use borrow.Author.Needs.{needs}
 use native.Mathlib.Omega.{arith}
 use Prim.Native.Nat.{_+_, _-_, _≤_}
-use mathlib.Core.Path.{_≡_, sym, _∙_}
+use mathlib.Core.Path.{_≡_, sym, ap, _∙_}
 use denote.Ref.{now}
 use lib.ListN.{length}
 use Rattle.standard.specs.Layout.{slotCount}
@@ -46,11 +47,11 @@ named-below-requires c κs =
     let n = c .before .before .before .before .before .slot-count .result in
     (search needs, omega arith, omega arith, (cc), (λ j l. w .inv .2 j (omega arith)))
 
-add-stopped : tie.Need-add-stopped Inv-loop μ-loop
-add-stopped c = search needs
+add-at : tie.Need-add-at Inv-loop μ-loop
+add-at c = search needs
 
-stopped-requires : tie.Need-stopped-requires Inv-loop μ-loop
-stopped-requires c κs = search needs
+at-requires : tie.Need-at-requires Inv-loop μ-loop
+at-requires c κs = search needs
 
 returns : tie.Need-returns Inv-loop μ-loop
 returns c =
@@ -58,7 +59,7 @@ returns c =
     let s = now (a .image) in
     let w = c .before .before .before .before .before .before .before .loop in
     let n = c .before .before .before .before .before .before .before .before .slot-count .result in
-    c .stopped .ensures ∙ sym (w .inv .3 ∙ from-stop (namesake (a .g) s) 12 n (w .i) (omega arith) (sym (c .before .before .named-below .ensures) ∙ c .before .if1 .taken))
+    ap Stopped (c .at .ensures) ∙ sym (w .inv .3 ∙ from-stop (namesake (a .g) s) 12 n (w .i) (omega arith) (sym (c .before .before .named-below .ensures) ∙ c .before .if1 .taken))
 
 mul-keys : tie.Need-mul-keys Inv-loop μ-loop
 mul-keys c = search needs
@@ -105,8 +106,8 @@ named-spec =
     name-key-requires
     add-named-below
     named-below-requires
-    add-stopped
-    stopped-requires
+    add-at
+    at-requires
     returns
     mul-keys
     array-write-keys

@@ -1,11 +1,12 @@
 -- `shared` meets its contract: the rows hold the extents of the slots passed.
 -- Assumes nothing.
+use Rattle.standard.specs.declared.Checked.the-variants.{Stopped}
 use Rattle.index.proofs.ClashLaws.{from-start, from-stop, from-more, from-end}
 use Rattle.index.proofs.ExtentLaws.{known-none, known-at, known-more}
 use borrow.Author.Needs.{needs}
 use native.Mathlib.Omega.{arith}
 use Prim.Native.Nat.{_+_, _-_, _≤_}
-use mathlib.Core.Path.{_≡_, sym, _∙_}
+use mathlib.Core.Path.{_≡_, sym, ap, _∙_}
 use denote.Ref.{now}
 use lib.ListN.{length}
 use Rattle.standard.specs.Layout.{slotCount}
@@ -43,11 +44,11 @@ shares-below-requires c κs =
     let n = c .before .before .before .before .before .slot-count .result in
     (search needs, omega arith, omega arith, c .before .before .extent-in .ensures, known-at (a .g) s (w .starts) (w .ends) (w .i) (w .i + 1 - 1) (omega arith) (w .inv .3))
 
-add-stopped : tie.Need-add-stopped Inv-loop μ-loop
-add-stopped c = search needs
+add-at : tie.Need-add-at Inv-loop μ-loop
+add-at c = search needs
 
-stopped-requires : tie.Need-stopped-requires Inv-loop μ-loop
-stopped-requires c κs = search needs
+at-requires : tie.Need-at-requires Inv-loop μ-loop
+at-requires c κs = search needs
 
 returns : tie.Need-returns Inv-loop μ-loop
 returns c =
@@ -55,7 +56,7 @@ returns c =
     let s = now (a .image) in
     let w = c .before .before .before .before .before .before .before .loop in
     let n = c .before .before .before .before .before .before .before .before .slot-count .result in
-    c .stopped .ensures ∙ sym (w .inv .4 ∙ from-stop (shares (a .g) s) 11 n (w .i) (omega arith) (sym (c .before .before .shares-below .ensures) ∙ c .before .if1 .taken))
+    ap Stopped (c .at .ensures) ∙ sym (w .inv .4 ∙ from-stop (shares (a .g) s) 11 n (w .i) (omega arith) (sym (c .before .before .shares-below .ensures) ∙ c .before .if1 .taken))
 
 mul-starts : tie.Need-mul-starts Inv-loop μ-loop
 mul-starts c = search needs
@@ -108,8 +109,8 @@ shared-spec =
     extent-in-requires
     add-shares-below
     shares-below-requires
-    add-stopped
-    stopped-requires
+    add-at
+    at-requires
     returns
     mul-starts
     array-write-starts

@@ -8,9 +8,9 @@ use lib.ListN.{length}
 use native.Mathlib.Omega.{arith}
 use denote.Ref.{now}
 use Rattle.standard.specs.Packing.{Laid}
-use Rattle.promises.specs.NeededLaws.{leastFor}
+use Rattle.promises.specs.NeededLaws.{leastFor, least-most, six-left}
 use Rattle.filling.specs.Poured.{Placed}
-use Rattle.laying.proofs.DeskLaws.{Left, segment-on, segment-end, on-facts, least-bounds}
+use Rattle.laying.proofs.DeskLaws.{Left, segment-on, segment-end}
 use Rattle.laying.proofs.spread.Statement.{statement}
 use Rattle.laying.proofs.spread.Tie as tie
 
@@ -46,7 +46,7 @@ sub-k : tie.Need-sub-k Inv-loop μ-loop
 sub-k c =
     let w = c .before .loop in
     let x = c .before .before .before .before .before in
-    let o = on-facts (w .n) (w .room) (x .args .s .B) (omega arith) (w .inv .6) (w .inv .7) in
+    let o = six-left (w .n) (w .room) (x .args .s .B) (omega arith) (w .inv .6) (w .inv .7) in
     omega arith
 
 -- src/lib.rt:366:69
@@ -58,7 +58,7 @@ lay-segment-requires : tie.Need-lay-segment-requires Inv-loop μ-loop
 lay-segment-requires c κs =
     let w = c .before .before .loop in
     let x = c .before .before .before .before .before .before in
-    let o = on-facts (w .n) (w .room) (x .args .s .B) (omega arith) (w .inv .6) (w .inv .7) in
+    let o = six-left (w .n) (w .room) (x .args .s .B) (omega arith) (w .inv .6) (w .inv .7) in
     (w .inv .1, omega (arith, w .inv .8), omega (arith, w .inv .9), omega (arith, x .pre .0 .1))
 
 -- src/lib.rt:369:9
@@ -66,7 +66,7 @@ add-from : tie.Need-add-from Inv-loop μ-loop
 add-from c =
     let w = c .before .before .before .before .before .loop in
     let x = c .before .before .before .before .before .before .before .before .before in
-    let o = on-facts (w .n) (w .room) (x .args .s .B) (omega arith) (w .inv .6) (w .inv .7) in
+    let o = six-left (w .n) (w .room) (x .args .s .B) (omega arith) (w .inv .6) (w .inv .7) in
     omega (arith, w .inv .8)
 
 -- src/lib.rt:370:9
@@ -74,7 +74,7 @@ sub-n : tie.Need-sub-n Inv-loop μ-loop
 sub-n c =
     let w = c .before .before .before .before .before .loop in
     let x = c .before .before .before .before .before .before .before .before .before in
-    let o = on-facts (w .n) (w .room) (x .args .s .B) (omega arith) (w .inv .6) (w .inv .7) in
+    let o = six-left (w .n) (w .room) (x .args .s .B) (omega arith) (w .inv .6) (w .inv .7) in
     omega arith
 
 -- src/lib.rt:364:5
@@ -82,7 +82,7 @@ loop-less : tie.Need-loop-less Inv-loop μ-loop
 loop-less c =
     let w = c .before .before .before .before .before .loop in
     let x = c .before .before .before .before .before .before .before .before .before in
-    let o = on-facts (w .n) (w .room) (x .args .s .B) (omega arith) (w .inv .6) (w .inv .7) in
+    let o = six-left (w .n) (w .room) (x .args .s .B) (omega arith) (w .inv .6) (w .inv .7) in
     omega arith
 
 -- src/lib.rt:364:5
@@ -90,11 +90,11 @@ loop-again : tie.Need-loop-again Inv-loop μ-loop
 loop-again c =
     let w = c .before .before .before .before .before .loop in
     let x = c .before .before .before .before .before .before .before .before .before in
-    let o = on-facts (w .n) (w .room) (x .args .s .B) (omega arith) (w .inv .6) (w .inv .7) in
+    let o = six-left (w .n) (w .room) (x .args .s .B) (omega arith) (w .inv .6) (w .inv .7) in
     let a = x .args in
     let k = w .room - 5 in
     let t = c .before .before .lay-segment in
-    let f = least-bounds (w .n - k) in
+    let f = least-most (w .n - k) in
     let on = segment-on (a .g) (a .s .size) (a .s .B) (now (a .bodies)) (w .image) (t .last .1 .0) (w .p) (t .result) (w .room) (w .rest) (w .from) (w .n) (w .begun)
     (w .inv .8) (omega arith) (w .inv .6) (w .inv .7) (w .inv .3) (t .ensures) in (
       λ more tail. w .inv .0 more tail ∙ on more tail,

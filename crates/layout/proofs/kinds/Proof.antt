@@ -20,11 +20,11 @@ mul-start c = search needs
 legal-run-requires : tie.Need-legal-run-requires
 legal-run-requires c κs = (omega arith, omega arith, first-fits _ (now (c .before .before .args .image)) (c .index-sectors .result) (c .index-sectors .ensures .0) (c .before .before .pre))
 
-no-kind-requires : tie.Need-no-kind-requires
-no-kind-requires c κs = search needs
+at-requires : tie.Need-at-requires
+at-requires c κs = search needs
 
 returns : tie.Need-returns
-returns c = ap Stopped (c .no-kind .ensures) ∙ stops-first _ _ (c .before .before .before .index-sectors .result) (c .before .before .before .index-sectors .ensures .0) _ (c .before .before .legal-run .ensures) (c .before .if1 .taken)
+returns c = ap Stopped (c .at .ensures) ∙ stops-first _ _ (c .before .before .before .index-sectors .result) (c .before .before .before .index-sectors .ensures .0) _ (c .before .before .legal-run .ensures) (c .before .if1 .taken)
 
 wide16-requires : tie.Need-wide16-requires
 wide16-requires c κs = search needs
@@ -41,21 +41,21 @@ later-sectors-requires c κs = search needs
 legal-run-requires-2 : tie.Need-legal-run-requires-2
 legal-run-requires-2 c κs = (omega arith, omega arith, behind-fits _ (now (c .before .before .before .before .before .before .before .args .image)) (c .before .before .before .before .before .index-sectors .result) (c .before .before .before .before .before .index-sectors .ensures .0) (c .later-sectors .result) (c .before .before .wide16 .result) (c .before .wide .result) (c .later-sectors .ensures .0) (c .before .before .wide16 .ensures .0) (c .before .wide .ensures .0) (c .before .before .before .before .before .before .before .pre))
 
-sub-no-kind : tie.Need-sub-no-kind
-sub-no-kind c = search needs
+sub-at : tie.Need-sub-at
+sub-at c = search needs
 
-div-no-kind : tie.Need-div-no-kind
-div-no-kind c = search needs
+div-at : tie.Need-div-at
+div-at c = search needs
 
-add-no-kind : tie.Need-add-no-kind
-add-no-kind c = omega (arith, div-le-self (c .before .legal-run2 .result - c .before .before .before .before .before .before .before .index-sectors .result * 129) (c .before .before .before .before .wide16 .result + 1))
+add-at : tie.Need-add-at
+add-at c = omega (arith, div-le-self (c .before .legal-run2 .result - c .before .before .before .before .before .before .before .index-sectors .result * 129) (c .before .before .before .before .wide16 .result + 1))
 
-no-kind-requires-2 : tie.Need-no-kind-requires-2
-no-kind-requires-2 c κs = search needs
+at-requires-2 : tie.Need-at-requires-2
+at-requires-2 c κs = search needs
 
 returns-2 : tie.Need-returns-2
 returns-2 c =
-    ap Stopped (c .no-kind2 .ensures)
+    ap Stopped (c .at2 .ensures)
     ∙ stops-behind _ _ (c .before .before .before .before .before .before .before .before .index-sectors .result) (c .before .before .before .before .before .before .before .before .index-sectors .ensures .0)
     (c .before .before .before .later-sectors .result) (c .before .before .before .before .before .wide16 .result) (c .before .before .before .before .wide .result) (c .before .before .before .later-sectors .ensures .0) (c .before .before .before .before .before .wide16 .ensures .0) (c .before .before .before .before .wide .ensures .0) (c .before .before .before .before .before .before .before .before .before .before .pre)
     (c .before .before .before .before .before .before .before .legal-run .result) (c .before .before .legal-run2 .result) (c .before .before .before .before .before .before .before .legal-run .ensures) (c .before .before .before .before .before .before .if1 .left) (c .before .before .legal-run2 .ensures) (c .before .if2 .taken)
@@ -73,16 +73,16 @@ kinds-spec =
     index-sectors-requires
     mul-start
     legal-run-requires
-    no-kind-requires
+    at-requires
     returns
     wide16-requires
     add-size
     wide-requires
     later-sectors-requires
     legal-run-requires-2
-    sub-no-kind
-    div-no-kind
-    add-no-kind
-    no-kind-requires-2
+    sub-at
+    div-at
+    add-at
+    at-requires-2
     returns-2
     returns-3)

@@ -1,18 +1,19 @@
 -- By the level.
 -- Assumes nothing.
 use Prim.Native.Nat.{ℕ}
-use mathlib.Core.Path.{_≡_, sym, ap, _∙_}
+use mathlib.Core.Path.{sym, ap, _∙_}
 use mathlib.Core.List.{List}
 use native.Mathlib.Omega.{arith}
 use borrow.Author.Tests.{not-true, not-false}
 use denote.Ref.{now}
+use Rattle.text.proofs.LaidLaws.{puts-as}
 use Rattle.standard.specs.Layout.{labelAt}
 use Rattle.standard.specs.Labels.{knownLevel}
 use Rattle.standard.specs.Listing.{otherLine}
 use Rattle.volume.proofs.NumberLaws.{slotted-of}
 use Rattle.volume.proofs.FindLaws.{room-there}
 use Rattle.lines.specs.Parts.{fieldsInARow}
-use Rattle.lines.proofs.Laws.{puts-as, line-known, line-other}
+use Rattle.lines.proofs.Laws.{line-known, line-other}
 use borrow.Author.Needs.{needs}
 use Rattle.lines.proofs.label_line.Statement.{statement}
 use Rattle.lines.proofs.label_line.Tie as tie

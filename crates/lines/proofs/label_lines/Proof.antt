@@ -1,8 +1,7 @@
 -- Slot after slot: what puts the lines of the slots from here on puts all.
 -- Assumes nothing.
 use Prim.Native.Nat.{ℕ, _+_, _*_, _-_, _≤_, _<_}
-use mathlib.Core.Path.{_≡_, refl, sym, ap, _∙_}
-use mathlib.Core.List.{List, [], _∷_, _++_}
+use mathlib.Core.Path.{_≡_, refl, ap, _∙_}
 use lib.ListN.{length}
 use native.Mathlib.Omega.{arith}
 use denote.Ref.{now}
@@ -11,9 +10,9 @@ use Rattle.standard.specs.Layout.{slotCount}
 use Rattle.standard.specs.Judgement.{judged}
 use Rattle.standard.specs.Listing.{linesFrom}
 use Rattle.standard.specs.declared.Judged.the-variants.{Volume}
-use Rattle.text.proofs.LaidLaws.{Rest, rest-more, rest-end, puts-length}
+use Rattle.text.proofs.LaidLaws.{puts-as, Rest, rest-more, rest-end, puts-length}
 use Rattle.volume.proofs.NumberLaws.{slotted-of}
-use Rattle.lines.proofs.Laws.{puts-as, lines-more, lines-end}
+use Rattle.lines.proofs.Laws.{lines-more, lines-end}
 use Rattle.lines.proofs.label_lines.Statement.{statement}
 use Rattle.lines.proofs.label_lines.Tie as tie
 

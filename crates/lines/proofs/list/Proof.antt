@@ -1,11 +1,12 @@
 -- Too long, refused, or accepted.
 -- Assumes nothing.
-use mathlib.Core.Path.{_≡_, sym, ap, _∙_}
+use mathlib.Core.Path.{sym, ap, _∙_}
 use native.Mathlib.Omega.{arith}
 use denote.Ref.{now}
+use Rattle.text.proofs.LaidLaws.{puts-as}
 use Rattle.standard.specs.Listing.{refusedLine}
 use Rattle.volume.specs.Stages.{refusalOf}
-use Rattle.lines.proofs.Laws.{puts-as, listing-long, listing-refused, listing-volume}
+use Rattle.lines.proofs.Laws.{listing-long, listing-refused, listing-volume}
 use borrow.Author.Needs.{needs}
 use Rattle.lines.proofs.list.Statement.{statement}
 use Rattle.lines.proofs.list.Tie as tie

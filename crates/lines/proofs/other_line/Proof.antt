@@ -1,12 +1,8 @@
 -- The parts in a row.
 -- Assumes nothing.
-use mathlib.Core.Path.{_≡_, refl, sym, ap, _∙_}
-use mathlib.Core.List.{List, [], _∷_, _++_}
-use Prim.Native.Nat.{ℕ}
 use native.Mathlib.Omega.{arith}
 use denote.Ref.{now}
-use Rattle.text.proofs.LaidLaws.{puts-more}
-use Rattle.lines.proofs.Laws.{puts-as}
+use Rattle.text.proofs.LaidLaws.{puts-as, puts-more}
 use Rattle.lines.proofs.Laws.{other-is}
 use borrow.Author.Needs.{needs}
 use Rattle.lines.proofs.other_line.Statement.{statement}

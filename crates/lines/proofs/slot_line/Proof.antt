@@ -1,13 +1,13 @@
 -- A label has its line.
 -- Assumes nothing.
-use mathlib.Core.Path.{_≡_, sym, ap, _∙_}
+use mathlib.Core.Path.{sym, _∙_}
 use native.Mathlib.Omega.{arith}
 use borrow.Author.Tests.{not-true, not-false}
 use denote.Ref.{now}
 use Rattle.promises.specs.FreeLaws.{has-label}
 use Rattle.volume.proofs.NumberLaws.{slotted-of}
-use Rattle.text.proofs.LaidLaws.{puts-none}
-use Rattle.lines.proofs.Laws.{puts-as, no-line, a-line}
+use Rattle.text.proofs.LaidLaws.{puts-as, puts-none}
+use Rattle.lines.proofs.Laws.{no-line, a-line}
 use borrow.Author.Needs.{needs}
 use Rattle.lines.proofs.slot_line.Statement.{statement}
 use Rattle.lines.proofs.slot_line.Tie as tie

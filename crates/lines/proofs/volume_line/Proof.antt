@@ -1,7 +1,7 @@
 -- The parts in a row.
 -- Assumes nothing.
 use Prim.Native.Nat.{ℕ}
-use mathlib.Core.Path.{_≡_, sym, ap, _∙_}
+use mathlib.Core.Path.{ap, _∙_}
 use mathlib.Core.List.{List, _++_}
 use native.Mathlib.Omega.{arith}
 use denote.Ref.{now}
@@ -9,9 +9,9 @@ use Rattle.standard.specs.Characters.{bytes, shown}
 use Rattle.standard.specs.Layout.{vol1Of}
 use Rattle.standard.specs.Volume.{volumeName}
 use Rattle.standard.specs.Listing.{newline}
-use Rattle.text.proofs.LaidLaws.{puts-more}
+use Rattle.text.proofs.LaidLaws.{puts-as, puts-more}
 use Rattle.lines.specs.Parts.{numbersShown}
-use Rattle.lines.proofs.Laws.{puts-as, volume-is}
+use Rattle.lines.proofs.Laws.{volume-is}
 use borrow.Author.Needs.{needs}
 use Rattle.lines.proofs.volume_line.Statement.{statement}
 use Rattle.lines.proofs.volume_line.Tie as tie

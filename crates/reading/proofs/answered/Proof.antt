@@ -1,7 +1,8 @@
 -- The answer to what was measured.
 -- Assumes nothing.
-use mathlib.Core.Path.{sym, ap}
+use mathlib.Core.Path.{sym, ap, _∙_}
 use native.Mathlib.Omega.{arith}
+use Rattle.standard.specs.declared.Answer.the-variants.{Unanswered}
 use Rattle.reading.specs.Answers.{answeredBy}
 use Rattle.reading.proofs.ReplyLaws.{answered-short, answered-record}
 use borrow.Author.Needs.{needs}
@@ -11,8 +12,11 @@ use Rattle.reading.proofs.answered.Tie as tie
 enum-known-x : tie.Need-enum-known-x
 enum-known-x c = search needs
 
+at-requires : tie.Need-at-requires
+at-requires c κs = search needs
+
 returns : tie.Need-returns
-returns c = answered-short _ _ _ _ _ _ (c .before .before .x .given .1) (omega arith)
+returns c = ap Unanswered (c .at .ensures) ∙ answered-short _ _ _ _ _ _ (c .before .before .before .x .given .1) (omega arith)
 
 enum-known-x-2 : tie.Need-enum-known-x-2
 enum-known-x-2 c = search needs
@@ -40,6 +44,7 @@ answered-spec =
     tie.close
     (tie.spec
     enum-known-x
+    at-requires
     returns
     enum-known-x-2
     enum-told

@@ -1,8 +1,9 @@
 -- A place of an opened file.
 -- Assumes nothing.
-use mathlib.Core.Path.{sym, _∙_}
+use mathlib.Core.Path.{sym, ap, _∙_}
 use denote.Ref.{now}
 use borrow.Author.Tests.{not-true, not-false}
+use Rattle.standard.specs.declared.Answer.the-variants.{Unanswered}
 use Rattle.labels.specs.Forms.{formatFor}
 use Rattle.opening.specs.Opened.{fileOf}
 use Rattle.opening.proofs.OpenedLaws.{facts, inside-is}
@@ -16,14 +17,17 @@ use Rattle.reading.proofs.read_on.Tie as tie
 in-file-requires : tie.Need-in-file-requires
 in-file-requires c κs = let x = c .before .before .args in let k = facts (now (x .image)) (x .f) (c .before .before .pre .0) in (k .U-low, k .fixed-some)
 
+at-requires : tie.Need-at-requires
+at-requires c κs = search needs
+
 returns : tie.Need-returns
 returns c =
-    let x = c .before .before .before .before .args in
-    let p = c .before .before .before .before .pre in
+    let x = c .before .before .before .before .before .args in
+    let p = c .before .before .before .before .before .pre in
     let r =
     answer-19 (modeOf (x .salvage)) (fileOf (now (x .image)) (x .f)) (x .place) (now (x .out))
-    (sym (inside-is (now (x .image)) (x .f) (p .0) (x .place)) ∙ (sym (c .before .in-file .ensures) ∙ not-true _ (c .if1 .taken))) in
-    (r .0, r .1, p .1)
+    (sym (inside-is (now (x .image)) (x .f) (p .0) (x .place)) ∙ (sym (c .before .before .in-file .ensures) ∙ not-true _ (c .before .if1 .taken))) in
+    (ap Unanswered (c .at .ensures) ∙ r .0, r .1, p .1)
 
 seat-at-requires : tie.Need-seat-at-requires
 seat-at-requires c κs =
@@ -60,6 +64,7 @@ read-on-spec =
     tie.close
     (tie.spec
     in-file-requires
+    at-requires
     returns
     seat-at-requires
     stand-at-requires

@@ -34,14 +34,14 @@ wide-requires c κs = search needs
 is-wrong-requires : tie.Need-is-wrong-requires Inv-loop μ-loop
 is-wrong-requires c κs = search needs
 
-wrong-record-requires : tie.Need-wrong-record-requires Inv-loop μ-loop
-wrong-record-requires c κs = search needs
+at-requires : tie.Need-at-requires Inv-loop μ-loop
+at-requires c κs = search needs
 
 returns : tie.Need-returns Inv-loop μ-loop
 returns c =
     let x = c .before .before .before .before .before .before .before .before .args in
     let w = c .before .before .before .before .before .before .loop in
-    sym (w .inv .1 ∙ wrong-stop (formatFor (x .form)) (x .B) (x .R) (now (x .lengths)) (w .i) (omega arith) (cc) ∙ ap Stopped (sym (c .wrong-record .ensures)))
+    sym (w .inv .1 ∙ wrong-stop (formatFor (x .form)) (x .B) (x .R) (now (x .lengths)) (w .i) (omega arith) (cc) ∙ ap Stopped (sym (c .at .ensures)))
 
 add-i : tie.Need-add-i Inv-loop μ-loop
 add-i c = search needs
@@ -72,7 +72,7 @@ first-wrong-spec =
     shared-slice-read-wide
     wide-requires
     is-wrong-requires
-    wrong-record-requires
+    at-requires
     returns
     add-i
     loop-less

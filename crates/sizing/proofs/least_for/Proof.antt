@@ -2,7 +2,8 @@
 -- Assumes nothing.
 use mathlib.Core.Path.{sym}
 use native.Mathlib.Omega.{arith}
-use Rattle.sizing.proofs.LevelLaws.{least-pos, least-none}
+use Rattle.promises.specs.NeededLaws.{least-pos}
+use Rattle.sizing.proofs.LevelLaws.{least-none}
 use Rattle.sizing.proofs.least_for.Statement.{statement}
 use Rattle.sizing.proofs.least_for.Tie as tie
 

@@ -1,12 +1,10 @@
 -- The digits from the first on: what puts the rest from here puts the whole.
 -- Assumes nothing.
-use Prim.Native.Nat.{ℕ, suc, _+_, _-_, _≤_, _<_}
-use mathlib.Core.Path.{_≡_, refl, sym, ap, subst, _∙_}
-use mathlib.Core.List.{List, [], _∷_, _++_}
+use Prim.Native.Nat.{ℕ, _+_, _-_, _<_}
+use mathlib.Core.Path.{_≡_, refl, sym, ap, _∙_}
+use mathlib.Core.List.{_∷_}
 use lib.ListN.{length}
 use native.Mathlib.Omega.{arith}
-use native.Mathlib.Numerals.{add-one}
-use denote.Ref.{now}
 use borrow.Author.Needs.{needs}
 use Rattle.standard.specs.Characters.{padded, digitOf}
 use Rattle.text.specs.Laid.{without}
@@ -14,9 +12,6 @@ use Rattle.text.proofs.LaidLaws.{Rest, rest-more, rest-end, puts-length
 use Rattle.text.proofs.Digits.{padded-first, padded-none}
 use Rattle.text.proofs.put_padded.Statement.{statement}
 use Rattle.text.proofs.put_padded.Tie as tie
-
-none : (n : ℕ) → n ≤ 0 → n ≡ 0
-none n h = omega arith
 
 abbrev Inv-loop : tie.InvT-loop
 Inv-loop out₀ at width n left₀ next₀ out left next = (next + left ≡ at + width) × (at < 4294967296) × (width < 65536) × (length out ≡ length out₀) × Rest out₀ at (padded width n) out next (padded left n)
@@ -62,7 +57,8 @@ returns : tie.Need-returns Inv-loop μ-loop
 returns c =
     let a = c .before .before .before .args in
     let w = c .before .loop in
-    (rest-end (w .inv .4) (ap (λ (k : ℕ). padded k (a .n)) (none (w .left) (omega arith)) ∙ padded-none (a .n)), omega (arith, w .inv .0))
+    let z : w .left ≡ 0 = omega arith in
+    (rest-end (w .inv .4) (ap (λ (k : ℕ). padded k (a .n)) z ∙ padded-none (a .n)), omega (arith, w .inv .0))
 
 pub put-padded-spec : {M : Type 1} → statement M
 put-padded-spec =

@@ -1,6 +1,6 @@
 -- Digit after digit is taken off.
 -- Assumes nothing.
-use Prim.Native.Nat.{ℕ, suc, _-_, _<_, _≤_}
+use Prim.Native.Nat.{ℕ, suc, _-_}
 use mathlib.Core.Path.{_≡_, refl, sym, ap, _∙_}
 use native.Mathlib.Omega.{arith}
 use borrow.Author.Needs.{needs}
@@ -8,12 +8,6 @@ use Rattle.text.specs.Laid.{without}
 use Rattle.text.proofs.Digits.{without-more, without-none}
 use Rattle.text.proofs.without.Statement.{statement}
 use Rattle.text.proofs.without.Tie as tie
-
-back : (n : ℕ) → 0 < n → n ≡ suc (n - 1)
-back n h = omega arith
-
-none : (n : ℕ) → n ≤ 0 → n ≡ 0
-none n h = omega arith
 
 abbrev Inv-loop : tie.InvT-loop
 Inv-loop digits n left₀ m₀ left m = without digits n ≡ without left m
@@ -33,12 +27,14 @@ loop-less c = search needs
 loop-again : tie.Need-loop-again Inv-loop μ-loop
 loop-again c =
     let w = c .before .loop in
-    w .inv ∙ ap (λ (k : ℕ). without k (w .m)) (back (w .left) (omega arith)) ∙ without-more (w .left - 1) (w .m)
+    let e : w .left ≡ suc (w .left - 1) = omega arith in
+    w .inv ∙ ap (λ (k : ℕ). without k (w .m)) e ∙ without-more (w .left - 1) (w .m)
 
 returns : tie.Need-returns Inv-loop μ-loop
 returns c =
     let w = c .before .loop in
-    sym (w .inv ∙ ap (λ (k : ℕ). without k (w .m)) (none (w .left) (omega arith)) ∙ without-none (w .m))
+    let z : w .left ≡ 0 = omega arith in
+    sym (w .inv ∙ ap (λ (k : ℕ). without k (w .m)) z ∙ without-none (w .m))
 
 pub without-spec : {M : Type 1} → statement M
 without-spec =

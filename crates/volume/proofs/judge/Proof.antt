@@ -1,36 +1,35 @@
 -- `judge` meets its contract: 1 and 2, and the rest.
 -- Assumes nothing.
 use mathlib.Core.Path.{sym, ap, _∙_}
-use denote.Ref.{now}
 use Rattle.standard.specs.declared.Judged.the-variants.{Refused}
 use Rattle.volume.proofs.JudgeLaws.{short, bad-5, bad-7, behind-2}
 use borrow.Author.Needs.{needs}
 use Rattle.volume.proofs.judge.Statement.{statement}
 use Rattle.volume.proofs.judge.Tie as tie
 
-refused-requires : tie.Need-refused-requires
-refused-requires c κs = search needs
+at-requires : tie.Need-at-requires
+at-requires c κs = search needs
 
 returns : tie.Need-returns
-returns c = ap Refused (c .refused .ensures) ∙ short _ (c .before .if1 .taken)
+returns c = ap Refused (c .at .ensures) ∙ short _ (c .before .if1 .taken)
 
 index-kind-requires : tie.Need-index-kind-requires
 index-kind-requires c κs = search needs
 
-refused-requires-2 : tie.Need-refused-requires-2
-refused-requires-2 c κs = search needs
+at-requires-2 : tie.Need-at-requires-2
+at-requires-2 c κs = search needs
 
 returns-2 : tie.Need-returns-2
-returns-2 c = ap Refused (c .refused2 .ensures) ∙ bad-5 _ (c .before .before .before .if1 .left) (λ q. c .before .if2 .taken (c .before .before .index-kind .ensures .0 ∙ q))
+returns-2 c = ap Refused (c .at2 .ensures) ∙ bad-5 _ (c .before .before .before .if1 .left) (λ q. c .before .if2 .taken (c .before .before .index-kind .ensures .0 ∙ q))
 
 index-kind-requires-2 : tie.Need-index-kind-requires-2
 index-kind-requires-2 c κs = search needs
 
-refused-requires-3 : tie.Need-refused-requires-3
-refused-requires-3 c κs = search needs
+at-requires-3 : tie.Need-at-requires-3
+at-requires-3 c κs = search needs
 
 returns-3 : tie.Need-returns-3
-returns-3 c = ap Refused (c .refused3 .ensures) ∙ bad-7 _ (c .before .before .before .before .before .if1 .left) (sym (c .before .before .before .before .index-kind .ensures .0) ∙ c .before .before .before .if2 .left) (λ q. c .before .if3 .taken (c .before .before .index-kind2 .ensures .0 ∙ q))
+returns-3 c = ap Refused (c .at3 .ensures) ∙ bad-7 _ (c .before .before .before .before .before .if1 .left) (sym (c .before .before .before .before .index-kind .ensures .0) ∙ c .before .before .before .if2 .left) (λ q. c .before .if3 .taken (c .before .before .index-kind2 .ensures .0 ∙ q))
 
 judge-vol1-requires : tie.Need-judge-vol1-requires
 judge-vol1-requires c κs = search needs
@@ -42,13 +41,13 @@ pub judge-spec : {M : Type 1} → statement M
 judge-spec =
     tie.close
     (tie.spec
-    refused-requires
+    at-requires
     returns
     index-kind-requires
-    refused-requires-2
+    at-requires-2
     returns-2
     index-kind-requires-2
-    refused-requires-3
+    at-requires-3
     returns-3
     judge-vol1-requires
     returns-4)

@@ -5,7 +5,7 @@ use mathlib.Core.List.{List}
 use Rattle.standard.specs.Rules.{lowestFault}
 use Rattle.standard.specs.Defects.{ermapRules}
 use Rattle.numbers.specs.Numbers.{defected}
-use mathlib.Core.Path.{sym, ap, _∙_}
+use mathlib.Core.Path.{ap, _∙_}
 use denote.Ref.{now}
 use Rattle.standard.specs.declared.Judged.the-variants.{Refused}
 use Rattle.volume.proofs.JudgeLaws.{ermap-broken, ermap-whole, whole-after, behind-7}
@@ -22,14 +22,14 @@ wide-requires c κs = search needs
 ermap-fault-requires : tie.Need-ermap-fault-requires
 ermap-fault-requires c κs = search needs
 
-refused-requires : tie.Need-refused-requires
-refused-requires c κs = search needs
+at-requires : tie.Need-at-requires
+at-requires c κs = search needs
 
 returns : tie.Need-returns
 returns c =
     let s = now (c .before .before .before .before .before .before .args .image) in
     let f = c .before .before .ermap-fault .ensures ∙ ap (λ (h : List ℕ). lowestFault (ermapRules (c .before .before .before .wide .result) h)) (c .before .before .before .before .index-body .ensures .0) in
-    ap Refused (c .refused .ensures) ∙ ermap-broken s (c .before .before .before .before .before .before .args .g) (c .before .before .before .before .before .before .pre .2) (c .before .before .before .wide .result) (c .before .before .ermap-fault .result) (c .before .before .before .wide .ensures .0) f (c .before .if1 .taken)
+    ap Refused (c .at .ensures) ∙ ermap-broken s (c .before .before .before .before .before .before .args .g) (c .before .before .before .before .before .before .pre .2) (c .before .before .before .wide .result) (c .before .before .ermap-fault .result) (c .before .before .before .wide .ensures .0) f (c .before .if1 .taken)
 
 with-defects-requires : tie.Need-with-defects-requires
 with-defects-requires c κs =
@@ -59,7 +59,7 @@ judge-defects-spec =
     index-body-requires
     wide-requires
     ermap-fault-requires
-    refused-requires
+    at-requires
     returns
     with-defects-requires
     judge-slots-requires

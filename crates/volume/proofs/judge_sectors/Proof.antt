@@ -1,7 +1,6 @@
 -- `judge_sectors` meets its contract: the length, the kinds, and the rest.
 -- Assumes nothing.
-use mathlib.Core.Path.{sym, ap, _∙_}
-use denote.Ref.{now}
+use mathlib.Core.Path.{ap, _∙_}
 use Rattle.standard.specs.declared.Judged.the-variants.{Refused}
 use Rattle.volume.proofs.JudgeLaws.{wrong-length, bad-kind, behind-6}
 use borrow.Author.Needs.{needs}
@@ -11,11 +10,11 @@ use Rattle.volume.proofs.judge_sectors.Tie as tie
 image-length-requires : tie.Need-image-length-requires
 image-length-requires c κs = search needs
 
-refused-requires : tie.Need-refused-requires
-refused-requires c κs = search needs
+at-requires : tie.Need-at-requires
+at-requires c κs = search needs
 
 returns : tie.Need-returns
-returns c = ap Refused (c .refused .ensures) ∙ wrong-length _ _ (c .before .before .before .before .pre .2) _ (c .before .before .image-length .ensures .0) (c .before .if1 .taken)
+returns c = ap Refused (c .at .ensures) ∙ wrong-length _ _ (c .before .before .before .before .pre .2) _ (c .before .before .image-length .ensures .0) (c .before .if1 .taken)
 
 kinds-requires : tie.Need-kinds-requires
 kinds-requires c κs = c .if1 .left ∙ c .before .image-length .ensures .0
@@ -40,7 +39,7 @@ judge-sectors-spec =
     tie.close
     (tie.spec
     image-length-requires
-    refused-requires
+    at-requires
     returns
     kinds-requires
     enum-known-c

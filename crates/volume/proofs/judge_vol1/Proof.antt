@@ -21,14 +21,14 @@ index-body-requires c κs = search needs
 vol1-fault-requires : tie.Need-vol1-fault-requires
 vol1-fault-requires c κs = search needs
 
-refused-requires : tie.Need-refused-requires
-refused-requires c κs = search needs
+at-requires : tie.Need-at-requires
+at-requires c κs = search needs
 
 returns : tie.Need-returns
 returns c =
     let s = now (c .before .before .before .before .before .args .image) in
     let f = c .before .before .vol1-fault .ensures ∙ ap (λ (h : List ℕ). lowestFault (vol1Rules h)) (c .before .before .before .index-body .ensures .0) in
-    ap Refused (c .refused .ensures) ∙ vol1-broken s (c .before .before .vol1-fault .result) f (c .before .if1 .taken)
+    ap Refused (c .at .ensures) ∙ vol1-broken s (c .before .before .vol1-fault .result) f (c .before .if1 .taken)
 
 shared-slice-read-wide : tie.Need-shared-slice-read-wide
 shared-slice-read-wide c = search needs
@@ -36,15 +36,15 @@ shared-slice-read-wide c = search needs
 wide-requires : tie.Need-wide-requires
 wide-requires c κs = search needs
 
-refused-requires-2 : tie.Need-refused-requires-2
-refused-requires-2 c κs = search needs
+at-requires-2 : tie.Need-at-requires-2
+at-requires-2 c κs = search needs
 
 returns-2 : tie.Need-returns-2
 returns-2 c =
     let s = now (c .before .before .before .before .before .before .before .before .args .image) in
     let f = c .before .before .before .before .before .vol1-fault .ensures ∙ ap (λ (h : List ℕ). lowestFault (vol1Rules h)) (c .before .before .before .before .before .before .index-body .ensures .0) in
     let o = c .before .before .wide .ensures .0 ∙ ap (λ (h : List ℕ). getD h 10 0) (c .before .before .before .before .before .before .index-body .ensures .0) in
-    ap Refused (c .refused2 .ensures) ∙ not-open s (omega (arith, f, c .before .before .before .before .if1 .left)) (λ q. c .before .if2 .taken (o ∙ q))
+    ap Refused (c .at2 .ensures) ∙ not-open s (omega (arith, f, c .before .before .before .before .if1 .left)) (λ q. c .before .if2 .taken (o ∙ q))
 
 vol1-numbers-requires : tie.Need-vol1-numbers-requires
 vol1-numbers-requires c κs = (search needs, omega arith)
@@ -68,11 +68,11 @@ judge-vol1-spec =
     (tie.spec
     index-body-requires
     vol1-fault-requires
-    refused-requires
+    at-requires
     returns
     shared-slice-read-wide
     wide-requires
-    refused-requires-2
+    at-requires-2
     returns-2
     vol1-numbers-requires
     judge-sectors-requires

@@ -1,5 +1,7 @@
 -- A lost block, in salvage and in plain reading.
 -- Assumes nothing.
+use mathlib.Core.Path.{ap, _∙_}
+use Rattle.walks.specs.declared.Measured.the-variants.{Failed}
 use Rattle.walks.proofs.StandLaws.{lost-salvage, lost-plain}
 use borrow.Author.Needs.{needs}
 use Rattle.walks.proofs.at_lost.Statement.{statement}
@@ -14,8 +16,11 @@ after-gap-requires c κs = search needs
 returns : tie.Need-returns
 returns c = let x = c .before .before .before .args in lost-salvage (x .salvage) (x .place) _ _ (x .count) (cc) (c .before .before .before .pre) (c .before .next-block .ensures) (c .after-gap .ensures)
 
+at-requires : tie.Need-at-requires
+at-requires c κs = search needs
+
 returns-2 : tie.Need-returns-2
-returns-2 c = let x = c .before .args in lost-plain (x .salvage) (x .place .block) (cc)
+returns-2 c = let x = c .before .before .args in ap Failed (c .at .ensures) ∙ lost-plain (x .salvage) (x .place .block) (cc)
 
 pub at-lost-spec : {M : Type 1} → statement M
-at-lost-spec = tie.close (tie.spec next-block-requires after-gap-requires returns returns-2)
+at-lost-spec = tie.close (tie.spec next-block-requires after-gap-requires returns at-requires returns-2)

@@ -6,14 +6,12 @@ use borrow.Author.Needs.{needs}
 use Rattle.writing.proofs.carry_out.Statement.{statement}
 use Rattle.writing.proofs.carry_out.Tie as tie
 
--- src/lib.rt:184:9
 to-good-requires : tie.Need-to-good-requires
 to-good-requires c κs =
     let x = c .before .before .before .before in
     let a = x .args in
     plan-legal (a .g) (now (a .image)) (a .slot) (now (a .bodies)) (now (a .lengths)) (a .p) (x .pre)
 
--- src/lib.rt:187:5
 store-requires : tie.Need-store-requires
 store-requires c κs =
     let x = c .before .before .before .before .before .before .before in
@@ -21,7 +19,6 @@ store-requires c κs =
     let k = plan-storable (a .g) (now (a .image)) (a .slot) (now (a .bodies)) (now (a .lengths)) (a .p) (x .pre) in
     (plan-sized (a .g) (now (a .image)) (a .slot) (now (a .bodies)) (now (a .lengths)) (a .p) (x .pre), c .before .before .to-good .ensures .1, k .0, k .1, k .2, k .3, k .4, k .5)
 
--- src/lib.rt:188:5
 set-label-requires : tie.Need-set-label-requires
 set-label-requires c κs =
     let x = c .before .before .before .before .before .before .before .before .before .before .before in
@@ -30,11 +27,9 @@ set-label-requires c κs =
     let s = c .before .before .before .store in
     plan-room (a .g) (now (a .image)) (a .slot) (now (a .bodies)) (now (a .lengths)) (a .p) (x .pre) (t .result) (s .last .1 .0) (t .ensures .0) (s .ensures)
 
--- src/lib.rt:180:1
 same-length : tie.Need-same-length
 same-length c = search needs
 
--- src/lib.rt:180:1
 returns : tie.Need-returns
 returns c =
     let x = c .before .before .before .before .before .before .before .before .before .before .before .before .before .before in

@@ -18,7 +18,6 @@ use borrow.Author.Needs.{needs}
 use Rattle.writing.proofs.drafted.Statement.{statement}
 use Rattle.writing.proofs.drafted.Tie as tie
 
--- src/lib.rt:164:9
 numbers-of-requires : tie.Need-numbers-of-requires
 numbers-of-requires c κs =
     let x = c .before .before .before .before in
@@ -27,7 +26,6 @@ numbers-of-requires c κs =
     let h = now (a .image) in
     (p .4, numbers-of h (a .g) (p .0) .size-low)
 
--- src/lib.rt:170:9
 survey-requires : tie.Need-survey-requires
 survey-requires c κs =
     let x = c .before .before .before .before .before .before in
@@ -38,27 +36,21 @@ survey-requires c κs =
     let en = n .ensures ∙ ap (numbersOf (a .g)) (p .3) in
     ready h (a .g) (a .slot) (p .0) (p .1) (p .2) (n .result) en .3
 
--- src/lib.rt:172:35
 form-of-requires : tie.Need-form-of-requires
 form-of-requires c κs = search needs
 
--- src/lib.rt:172:9
 next-fault-requires : tie.Need-next-fault-requires
 next-fault-requires c κs = search needs
 
--- src/lib.rt:174:26
 enum-known-fault : tie.Need-enum-known-fault
 enum-known-fault c = search needs
 
--- src/lib.rt:175:57
 enum-told : tie.Need-enum-told
 enum-told c = search needs
 
--- src/lib.rt:175:57
 is-whole-requires : tie.Need-is-whole-requires
 is-whole-requires c κs = search needs
 
--- src/lib.rt:175:28
 fitted-requires : tie.Need-fitted-requires
 fitted-requires c κs =
     let x = c .before .before .before .before .before .before .before .before .before .before .before .before in
@@ -84,7 +76,6 @@ fitted-requires c κs =
       omega (arith, sum, x .good .1 .1 .1 .1 .0, x .good .1 .1 .1 .1 .1 .0),
     )
 
--- src/lib.rt:153:1
 returns : tie.Need-returns
 returns c =
     let x = c .before .before .before .before .before .before .before .before .before .before .before .before in
@@ -99,7 +90,6 @@ returns c =
     let es = faults-are h (a .g) (a .slot) (p .0) (p .1) (p .2) (now (a .bodies)) (now (a .lengths)) (n .result) en (v .result) (f .result) (length (now (a .bodies))) (v .ensures) (f .ensures ∙ ap (λ (l : List ℕ). formIn (formatOf l)) (p .3)) refl in
     draft-stop h (a .g) (a .slot) (p .0) (p .1) (p .2) (now (a .bodies)) (now (a .lengths)) _ (sym es ∙ (sym (t .ensures) ∙ c .before .fault .given .1)) (planOf (a .g) h (a .slot) (now (a .bodies)) (now (a .lengths)))
 
--- src/lib.rt:153:1
 returns-2 : tie.Need-returns-2
 returns-2 c =
     let x = c .before .before .before .before .before .before .before .before .before .before .before .before .before in

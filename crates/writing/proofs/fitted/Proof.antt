@@ -16,15 +16,12 @@ use borrow.Author.Needs.{needs}
 use Rattle.writing.proofs.fitted.Statement.{statement}
 use Rattle.writing.proofs.fitted.Tie as tie
 
--- src/lib.rt:124:9
 form-of-requires : tie.Need-form-of-requires
 form-of-requires c κs = search needs
 
--- src/lib.rt:125:9
 is-blocked-requires : tie.Need-is-blocked-requires
 is-blocked-requires c κs = search needs
 
--- src/lib.rt:133:9
 level-after-requires : tie.Need-level-after-requires
 level-after-requires c κs =
     let x = c .before .before .before .before .before .before in
@@ -39,7 +36,6 @@ level-after-requires c κs =
     let fits = subst (λ (l : List ℕ). EachFits (formatOf l) (blockLength l) (now (a .lengths))) (p .3) (p .7) in
     (level-ready h (a .g) (a .slot) (p .0) (p .1) (p .2) [] (now (a .lengths)) (a .n) en (f .result) (b .result) ef eb fits, block-few h (a .g) (a .slot) (p .0) (p .1) (p .2) [] (now (a .lengths)) (a .n) en, p .8)
 
--- src/lib.rt:135:16
 good-in-requires : tie.Need-good-in-requires
 good-in-requires c κs =
     let x = c .before .before .before .before .before .before .before in
@@ -50,7 +46,6 @@ good-in-requires c κs =
     let r = ready h (a .g) (a .slot) (p .0) (p .1) (p .2) (a .n) en in
     (r .3, r .2, p .6)
 
--- src/lib.rt:135:16
 div-held : tie.Need-div-held
 div-held c =
     let x = c .before .before .before .before .before .before .before .before in
@@ -61,11 +56,9 @@ div-held c =
     let r = ready h (a .g) (a .slot) (p .0) (p .1) (p .2) (a .n) en in
     omega (arith, r .0)
 
--- src/lib.rt:137:30
-refusal-requires : tie.Need-refusal-requires
-refusal-requires c κs = search needs
+at-requires : tie.Need-at-requires
+at-requires c κs = search needs
 
--- src/lib.rt:137:9
 returns : tie.Need-returns
 returns c =
     let x = c .before .before .before .before .before .before .before .before .before .before in
@@ -81,13 +74,11 @@ returns c =
     let o = c .before .before .good-in in
     let st = level-is h (a .g) (a .slot) (p .0) (p .1) (p .2) [] (now (a .lengths)) (a .n) en (f .result) (b .result) ef eb (v .result) (v .ensures) in
     let eh = held-is h (a .g) (a .slot) (p .0) (p .1) (p .2) [] (now (a .lengths)) (a .n) en (o .result) (o .result / a .n .m) (o .ensures) refl in
-    ap Stop (c .refusal .ensures) ∙ fit-stop h (a .g) (a .slot) (p .0) (p .1) (p .2) [] (now (a .lengths)) (a .n) en (v .result) st (o .result / a .n .m) eh (c .before .if1 .taken)
+    ap Stop (c .at .ensures) ∙ fit-stop h (a .g) (a .slot) (p .0) (p .1) (p .2) [] (now (a .lengths)) (a .n) en (v .result) st (o .result / a .n .m) eh (c .before .if1 .taken)
 
--- src/lib.rt:139:41
 end-of-requires : tie.Need-end-of-requires
 end-of-requires c κs = search needs
 
--- src/lib.rt:139:9
 data-end-requires : tie.Need-data-end-requires
 data-end-requires c κs =
     let x = c .before .before .before .before .before .before .before .before .before .before in
@@ -99,7 +90,6 @@ data-end-requires c κs =
     let o = c .before .before .good-in in
     (r .3, r .2, p .6, r .0, ap (λ (q : ℕ). q / a .n .m) (o .ensures))
 
--- src/lib.rt:112:1
 returns-2 : tie.Need-returns-2
 returns-2 c =
     let x = c .before .before .before .before .before .before .before .before .before .before .before in
@@ -129,7 +119,7 @@ fitted-spec =
     level-after-requires
     good-in-requires
     div-held
-    refusal-requires
+    at-requires
     returns
     end-of-requires
     data-end-requires

@@ -2,23 +2,20 @@
 -- Assumes nothing.
 use mathlib.Core.Path.{sym, ap, _∙_}
 use lib.ListN.{length}
-use Rattle.extents.proofs.RankLaws.{from-length}
+use Rattle.promises.specs.ExtentWhole.{from-length}
 use borrow.Author.Needs.{needs}
 use Rattle.writing.proofs.good_in.Statement.{statement}
 use Rattle.writing.proofs.good_in.Tie as tie
 
--- src/lib.rt:85:9
 returns : tie.Need-returns
 returns c =
     let x = c .before .before in
     let a = x .args in
     sym (ap length (x .pre .2 (c .if1 .taken)) ∙ from-length (a .g) (a .first .left) (a .first .at))
 
--- src/lib.rt:87:5
 count-good-requires : tie.Need-count-good-requires
 count-good-requires c κs = search needs
 
--- src/lib.rt:80:1
 returns-2 : tie.Need-returns-2
 returns-2 c = search needs
 

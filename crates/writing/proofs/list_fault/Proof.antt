@@ -10,27 +10,22 @@ use borrow.Author.Needs.{needs}
 use Rattle.writing.proofs.list_fault.Statement.{statement}
 use Rattle.writing.proofs.list_fault.Tie as tie
 
--- src/lib.rt:94:9
 sums-to-requires : tie.Need-sums-to-requires
 sums-to-requires c κs = search needs
 
--- src/lib.rt:95:33
-refusal-requires : tie.Need-refusal-requires
-refusal-requires c κs = search needs
+at-requires : tie.Need-at-requires
+at-requires c κs = search needs
 
--- src/lib.rt:95:9
 returns : tie.Need-returns
 returns c =
     let a = c .before .before .before .before .args in
     let t = c .before .before .sums-to in
-    ap Stopped (c .refusal .ensures)
+    ap Stopped (c .at .ensures)
     ∙ fault-sum (formatFor (a .form)) (a .B) (a .R) (a .size) (now (a .lengths)) (sym (t .ensures) ∙ not-true (t .result) (c .before .if1 .taken))
 
--- src/lib.rt:97:5
 first-wrong-requires : tie.Need-first-wrong-requires
 first-wrong-requires c κs = search needs
 
--- src/lib.rt:91:1
 returns-2 : tie.Need-returns-2
 returns-2 c =
     let a = c .before .before .before .before .args in
@@ -40,4 +35,4 @@ returns-2 c =
 
 pub list-fault-spec : {M : Type 1} → statement M
 list-fault-spec =
-    tie.close (tie.spec sums-to-requires refusal-requires returns first-wrong-requires returns-2)
+    tie.close (tie.spec sums-to-requires at-requires returns first-wrong-requires returns-2)

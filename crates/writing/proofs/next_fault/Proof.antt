@@ -7,40 +7,31 @@ use borrow.Author.Needs.{needs}
 use Rattle.writing.proofs.next_fault.Statement.{statement}
 use Rattle.writing.proofs.next_fault.Tie as tie
 
--- src/lib.rt:105:26
 enum-known-found : tie.Need-enum-known-found
 enum-known-found c = search needs
 
--- src/lib.rt:105:55
-refusal-requires : tie.Need-refusal-requires
-refusal-requires c κs = search needs
+at-requires : tie.Need-at-requires
+at-requires c κs = search needs
 
--- src/lib.rt:106:29
 enum-told : tie.Need-enum-told
 enum-told c = search needs
 
--- src/lib.rt:106:29
 list-fault-requires : tie.Need-list-fault-requires
 list-fault-requires c κs = search needs
 
--- src/lib.rt:107:29
 enum-told-2 : tie.Need-enum-told-2
 enum-told-2 c = search needs
 
--- src/lib.rt:107:29
 list-fault-requires-2 : tie.Need-list-fault-requires-2
 list-fault-requires-2 c κs = search needs
 
--- src/lib.rt:101:1
 returns : tie.Need-returns
 returns c =
-    ap Stopped (c .refusal .ensures) ∙ found-wrong _ _ _ (c .before .before .found .given .1)
+    ap Stopped (c .at .ensures) ∙ found-wrong _ _ _ (c .before .before .found .given .1)
 
--- src/lib.rt:101:1
 returns-2 : tie.Need-returns-2
 returns-2 c = c .list-fault .ensures ∙ found-whole _ _ (c .before .enum-told .given .1)
 
--- src/lib.rt:101:1
 returns-3 : tie.Need-returns-3
 returns-3 c = c .list-fault2 .ensures ∙ found-holed _ _ (c .before .enum-told2 .given .1)
 
@@ -49,7 +40,7 @@ next-fault-spec =
     tie.close
     (tie.spec
     enum-known-found
-    refusal-requires
+    at-requires
     enum-told
     list-fault-requires
     enum-told-2

@@ -14,19 +14,15 @@ use borrow.Author.Needs.{needs}
 use Rattle.writing.proofs.plan_in.Statement.{statement}
 use Rattle.writing.proofs.plan_in.Tie as tie
 
--- src/lib.rt:196:9
 usable-requires : tie.Need-usable-requires
 usable-requires c κs = search needs
 
--- src/lib.rt:198:26
 enum-known-u : tie.Need-enum-known-u
 enum-known-u c = search needs
 
--- src/lib.rt:200:17
 enum-told : tie.Need-enum-told
 enum-told c = search needs
 
--- src/lib.rt:200:17
 label-at-requires : tie.Need-label-at-requires
 label-at-requires c κs =
     let x = c .before .before .before .before .before .before in
@@ -37,19 +33,15 @@ label-at-requires c κs =
     let f = usable-facts (a .g) i (a .slot) ok in
     room-there (a .g) i (a .slot) (slotted-of i (a .g) (x .pre)) (f .0)
 
--- src/lib.rt:201:21
 shared-slice-read-wide : tie.Need-shared-slice-read-wide
 shared-slice-read-wide c = search needs
 
--- src/lib.rt:201:16
 wide-requires : tie.Need-wide-requires
 wide-requires c κs = search needs
 
--- src/lib.rt:202:38
-refusal-requires : tie.Need-refusal-requires
-refusal-requires c κs = search needs
+at-requires : tie.Need-at-requires
+at-requires c κs = search needs
 
--- src/lib.rt:202:17
 returns : tie.Need-returns
 returns c =
     let x = c .before .before .before .before .before .before .before .before .before .before .before in
@@ -61,9 +53,8 @@ returns c =
     let l = c .before .before .before .before .label-at in
     let w = c .before .before .wide in
     let e = ap (λ (h : List ℕ). at h 43) (sym (l .ensures .0)) ∙ sym (w .ensures .0) in
-    ap Stop (c .refusal .ensures) ∙ plan-24 (a .g) i (a .slot) (now (a .bodies)) (now (a .lengths)) ok (e ∙ c .before .if1 .taken)
+    ap Stop (c .at .ensures) ∙ plan-24 (a .g) i (a .slot) (now (a .bodies)) (now (a .lengths)) ok (e ∙ c .before .if1 .taken)
 
--- src/lib.rt:204:13
 drafted-requires : tie.Need-drafted-requires
 drafted-requires c κs =
     let x = c .before .before .before .before .before .before .before .before .before .before in
@@ -75,13 +66,11 @@ drafted-requires c κs =
     let l = c .before .before .before .label-at in
     (x .pre, f .0, f .1, l .ensures .0, l .ensures .1)
 
--- src/lib.rt:192:1
 returns-2 : tie.Need-returns-2
 returns-2 c =
     let a = c .before .before .before .before .before .before .before .args in
     plan-stop (a .g) (now (a .image)) (a .slot) (now (a .bodies)) (now (a .lengths)) _ (sym (c .before .before .before .usable .ensures) ∙ c .before .u .given .1)
 
--- src/lib.rt:192:1
 returns-3 : tie.Need-returns-3
 returns-3 c =
     let x = c .before .before .before .before .before .before .before .before .before .before .before in
@@ -105,7 +94,7 @@ plan-in-spec =
     label-at-requires
     shared-slice-read-wide
     wide-requires
-    refusal-requires
+    at-requires
     returns
     drafted-requires
     returns-2

@@ -9,27 +9,21 @@ use borrow.Author.Needs.{needs}
 use Rattle.writing.proofs.write.Statement.{statement}
 use Rattle.writing.proofs.write.Tie as tie
 
--- src/lib.rt:213:9
 judge-requires : tie.Need-judge-requires
 judge-requires c κs = search needs
 
--- src/lib.rt:214:24
 enum-known-j : tie.Need-enum-known-j
 enum-known-j c = search needs
 
--- src/lib.rt:215:35
 enum-told : tie.Need-enum-told
 enum-told c = search needs
 
--- src/lib.rt:215:35
 refusal-of-requires : tie.Need-refusal-of-requires
 refusal-of-requires c κs = search needs
 
--- src/lib.rt:215:9
 same-length : tie.Need-same-length
 same-length c = search needs
 
--- src/lib.rt:215:9
 returns : tie.Need-returns
 returns c =
     let a = c .before .before .before .before .before .before .before .before .args in
@@ -37,39 +31,31 @@ returns c =
     let e = write-stopped (now (a .image)) (a .slot) (now (a .bodies)) (now (a .lengths)) _ (sym (c .before .before .before .judge .ensures) ∙ t) in
     (ap Unwritten (c .refusal-of .ensures ∙ ap refusalOf t) ∙ e .0, e .1)
 
--- src/lib.rt:217:9
 plan-in-requires : tie.Need-plan-in-requires
 plan-in-requires c κs = sym (c .before .before .before .before .judge .ensures) ∙ c .before .before .j .given .1
 
--- src/lib.rt:219:23
 enum-known-d : tie.Need-enum-known-d
 enum-known-d c = search needs
 
--- src/lib.rt:220:21
 enum-known-d-2 : tie.Need-enum-known-d-2
 enum-known-d-2 c = search needs
 
--- src/lib.rt:221:13
 carry-out-requires : tie.Need-carry-out-requires
 carry-out-requires c κs =
     let a = c .before .before .before .before .before .before .before .before .before .before .before .before .before .before .args in
     write-accepted (now (a .image)) _ (a .slot) (now (a .bodies)) (now (a .lengths)) (sym (c .before .before .before .before .before .before .before .before .before .judge .ensures) ∙ c .before .before .before .before .before .before .before .j .given .1) _ (sym (c .before .before .before .before .plan-in .ensures) ∙ c .before .before .d2 .given .1)
 
--- src/lib.rt:210:1
 same-length-2 : tie.Need-same-length-2
 same-length-2 c = search needs
 
--- src/lib.rt:210:1
 returns-2 : tie.Need-returns-2
 returns-2 c =
     let a = c .before .before .before .before .before .before .before .before .before .before .before .before .before .args in
     write-refused (now (a .image)) _ (a .slot) (now (a .bodies)) (now (a .lengths)) (sym (c .before .before .before .before .before .before .before .before .judge .ensures) ∙ c .before .before .before .before .before .before .j .given .1) _ (sym (c .before .before .before .plan-in .ensures) ∙ c .before .d .given .1)
 
--- src/lib.rt:210:1
 same-length-3 : tie.Need-same-length-3
 same-length-3 c = search needs
 
--- src/lib.rt:210:1
 returns-3 : tie.Need-returns-3
 returns-3 c =
     let a = c .before .before .before .before .before .before .before .before .before .before .before .before .before .before .before .before .before .args in
