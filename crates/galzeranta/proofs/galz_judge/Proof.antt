@@ -1,5 +1,7 @@
 -- `galz_judge` meets its contract: what `volume::judge` and `packing::pack_judged` ensure.
 -- Assumes nothing.
+use mathlib.Core.Path.{ap, _∙_}
+use Rattle.standard.specs.Packed.{packedJudged}
 use borrow.Author.Needs.{needs}
 use Rattle.galzeranta.proofs.galz_judge.Statement.{statement}
 use Rattle.galzeranta.proofs.galz_judge.Tie as tie
@@ -11,7 +13,7 @@ pack-judged-requires : tie.Need-pack-judged-requires
 pack-judged-requires c κs = search needs
 
 returns : tie.Need-returns
-returns c = cc
+returns c = c .pack-judged .ensures ∙ ap packedJudged (c .before .judge .ensures)
 
 pub galz-judge-spec : {M : Type 1} → statement M
 galz-judge-spec = tie.close (tie.spec judge-requires pack-judged-requires returns)
