@@ -26,31 +26,31 @@ pub fn judge(image: &[u8]) -> Judged
 pub fn find(image: &[u8], name: &[u8]) -> Found
     ensures { λ r. ⌜ Allows (contract Calls.find) (named (now (image .entry)) (now (name .entry))) r [] ⌝ }
 {
-    volume::find(image, name)
+    finding::find(image, name)
 }
 
 pub fn find_slot(image: &[u8], slot: u64) -> Found
     ensures { λ r. ⌜ Allows (contract Calls.find-slot) (inSlot (now (image .entry)) slot) r [] ⌝ }
 {
-    volume::find_slot(image, slot)
+    finding::find_slot(image, slot)
 }
 
 pub fn label_named<'a, 'b>(image: &'a [u8], name: &'b [u8]) -> &'a [u8]
     ensures { λ r. ⌜ Allows (contract Calls.label-named) (named (now (image .entry)) (now (name .entry))) (now r) [] ⌝ }
 {
-    volume::label_named(image, name)
+    finding::label_named(image, name)
 }
 
 pub fn label_in_slot(image: &[u8], slot: u64) -> &[u8]
     ensures { λ r. ⌜ Allows (contract Calls.label-in-slot) (inSlot (now (image .entry)) slot) (now r) [] ⌝ }
 {
-    volume::label_in_slot(image, slot)
+    finding::label_in_slot(image, slot)
 }
 
 pub fn free(image: &[u8]) -> Counted
     ensures { λ r. ⌜ Allows (contract Calls.free) (now (image .entry)) r [] ⌝ }
 {
-    volume::free(image)
+    vacancy::free(image)
 }
 
 pub fn count(image: &[u8], slot: u64) -> Counted

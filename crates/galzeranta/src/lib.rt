@@ -26,7 +26,7 @@ pub extern "C" fn galz_judge(image: &[u8]) -> u64
 pub extern "C" fn galz_find(image: &[u8], name: &[u8]) -> u64
     ensures { λ r. ⌜ r ≡ packedFound (found (now (image .entry)) (now (name .entry))) ⌝ }
 {
-    packing::pack_found(volume::find(image, name))
+    packing::pack_found(finding::find(image, name))
 }
 
 // The number of blocks of the file in a slot.
@@ -42,7 +42,7 @@ pub extern "C" fn galz_count(image: &[u8], slot: u64) -> u64
 pub extern "C" fn galz_free(image: &[u8]) -> u64
     ensures { λ r. ⌜ r ≡ packedCounted (freeCount (now (image .entry))) ⌝ }
 {
-    packing::pack_counted(volume::free(image))
+    packing::pack_counted(vacancy::free(image))
 }
 
 // The place that a caller asks for: a mark is set if it is not 0.

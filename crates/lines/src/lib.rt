@@ -23,7 +23,7 @@ use text::put_byte;
 use text::put_bytes;
 use text::put_number;
 use text::put_padded;
-use volume::free_in;
+use vacancy::free_in;
 use volume::judge;
 use volume::refusal_of;
 ghost use mathlib.Core.Path.{_≡_};

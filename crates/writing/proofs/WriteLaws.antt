@@ -42,7 +42,7 @@ use Rattle.layout.specs.Room.{Room}
 use Rattle.extents.specs.Cursors.{legalAt, goodFrom, standing}
 use Rattle.extents.specs.declared.Cursor.{Cursor}
 use Rattle.volume.proofs.NumberLaws.{slotted-of}
-use Rattle.volume.proofs.FindLaws.{room-there}
+use Rattle.finding.proofs.FindLaws.{room-there}
 use Rattle.files.proofs.Blocks.{extent-on}
 use Rattle.filling.specs.Poured.{poured, flat, Sized}
 use Rattle.laying.specs.Ahead.{Tiled}

@@ -13,7 +13,7 @@ use Rattle.files.specs.Numbers.{numbersOf, tallied}
 use Rattle.files.proofs.Blocks.{tally-is}
 use Rattle.files.proofs.Accepted.{behind, ready}
 use Rattle.volume.proofs.NumberLaws.{slotted-of}
-use Rattle.volume.proofs.FindLaws.{room-there}
+use Rattle.finding.proofs.FindLaws.{room-there}
 use Rattle.files.proofs.Laws.{count-13, count-14, count-on}
 use borrow.Author.Needs.{needs}
 use Rattle.files.proofs.count_in.Statement.{statement}

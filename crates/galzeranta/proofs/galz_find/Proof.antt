@@ -1,4 +1,4 @@
--- `galz_find` meets its contract: what `volume::find` and `packing::pack_found` ensure; what is found has room.
+-- `galz_find` meets its contract: what `finding::find` and `packing::pack_found` ensure; what is found has room.
 -- Assumes nothing.
 use mathlib.Core.Path.{sym, ap, subst, _∙_}
 use Rattle.standard.specs.Packed.{packedFound}

@@ -1,4 +1,4 @@
--- `galz_free` meets its contract: what `volume::free` and `packing::pack_counted` ensure.
+-- `galz_free` meets its contract: what `vacancy::free` and `packing::pack_counted` ensure.
 -- Assumes nothing.
 use mathlib.Core.Path.{ap, _∙_}
 use Rattle.standard.specs.Packed.{packedCounted}

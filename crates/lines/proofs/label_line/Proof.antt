@@ -11,7 +11,7 @@ use Rattle.standard.specs.Layout.{labelAt}
 use Rattle.standard.specs.Labels.{knownLevel}
 use Rattle.standard.specs.Listing.{otherLine}
 use Rattle.volume.proofs.NumberLaws.{slotted-of}
-use Rattle.volume.proofs.FindLaws.{room-there}
+use Rattle.finding.proofs.FindLaws.{room-there}
 use Rattle.lines.specs.Parts.{fieldsInARow}
 use Rattle.lines.proofs.Laws.{line-known, line-other}
 use borrow.Author.Needs.{needs}

@@ -3,7 +3,7 @@
 use mathlib.Core.Path.{sym, _∙_}
 use denote.Ref.{now}
 use Rattle.volume.proofs.NumberLaws.{slotted-of}
-use Rattle.volume.proofs.FindLaws.{room-there}
+use Rattle.finding.proofs.FindLaws.{room-there}
 use Rattle.opening.proofs.OpenLaws.{usable-facts, open-stopped, open-usable}
 use borrow.Author.Needs.{needs}
 use Rattle.opening.proofs.open_in.Statement.{statement}

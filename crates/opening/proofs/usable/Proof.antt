@@ -4,7 +4,7 @@ use mathlib.Core.Path.{ap, _∙_}
 use denote.Ref.{now}
 use Rattle.standard.specs.declared.Checked.the-variants.{Stopped}
 use Rattle.volume.proofs.NumberLaws.{slotted-of}
-use Rattle.volume.proofs.FindLaws.{room-there}
+use Rattle.finding.proofs.FindLaws.{room-there}
 use borrow.Author.Tests.{not-false}
 use Rattle.opening.proofs.OpenLaws.{told, level-told, space-told, usable-13, usable-14, usable-15, usable-16, usable-all}
 use borrow.Author.Needs.{needs}

@@ -6,7 +6,7 @@ use mathlib.Core.List.{List}
 use denote.Ref.{now}
 use Rattle.standard.specs.Characters.{at}
 use Rattle.volume.proofs.NumberLaws.{slotted-of}
-use Rattle.volume.proofs.FindLaws.{room-there}
+use Rattle.finding.proofs.FindLaws.{room-there}
 use Rattle.opening.proofs.OpenLaws.{usable-facts}
 use Rattle.writing.specs.declared.Planned.the-variants.{Stop}
 use Rattle.writing.proofs.PlanLaws.{plan-24, plan-stop, plan-on}

@@ -1,11 +1,11 @@
 -- `label_named` meets its contract: a refused volume, no label of that name, a label.
 -- Assumes nothing.
 use mathlib.Core.Path.{sym, _∙_}
 use Rattle.volume.proofs.NumberLaws.{slotted-of}
-use Rattle.volume.proofs.FindLaws.{room, label-refused, no-label-named, label-of-name}
+use Rattle.finding.proofs.FindLaws.{room, label-refused, no-label-named, label-of-name}
 use borrow.Author.Needs.{needs}
-use Rattle.volume.proofs.label_named.Statement.{statement}
-use Rattle.volume.proofs.label_named.Tie as tie
+use Rattle.finding.proofs.label_named.Statement.{statement}
+use Rattle.finding.proofs.label_named.Tie as tie
 
 judge-requires : tie.Need-judge-requires
 judge-requires c κs = search needs

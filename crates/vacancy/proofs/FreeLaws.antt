@@ -1,6 +1,6 @@
 -- The free records: the sizes of the extents, summed up slot by slot, taken from all data addresses.
 -- Assumes nothing.
-use Prim.Native.Nat.{ℕ, zero, suc, _+_, _-_, _<_, _≤_}
+use Prim.Native.Nat.{ℕ, zero, suc, _+_, _-_, _*_, _<_, _≤_}
 use mathlib.Core.Path.{_≡_, refl, sym, ap, _∙_}
 use mathlib.Core.Bool.{Bool, true, false, cond}
 use mathlib.Core.List.{List}
@@ -41,6 +41,10 @@ module _ (g : Geometry) (image : List ℕ) where
   pub extents-more : (i : ℕ) → extentsBelow g image (i + 1) ≡ sizeIn (i + 1) + extentsBelow g image i
   unfolding extentsBelow
   extents-more i = rw (add-one i)
+
+-- all data addresses, as the code counts them
+pub all-counted : (g : Geometry) (l s d n a : ℕ) → l ≡ g .L → s ≡ g .S → d ≡ g .D → n ≡ l * s → a ≡ n * d → a ≡ addressCount g
+all-counted g l s d n a hl hs hd hn ha = cc
 
 -- the answer
 module _ (image : List ℕ) (g : Geometry) (j : judged image ≡ Volume g) where

@@ -1,10 +1,10 @@
 -- `has_label` meets its contract: below the first slot, behind the last, and between.
 -- Assumes nothing.
-use Rattle.volume.proofs.FindLaws.{slot-low, slot-high, slot-inside}
+use Rattle.finding.proofs.FindLaws.{slot-low, slot-high, slot-inside}
 use native.Mathlib.Omega.{arith}
 use borrow.Author.Needs.{needs}
-use Rattle.volume.proofs.has_label.Statement.{statement}
-use Rattle.volume.proofs.has_label.Tie as tie
+use Rattle.finding.proofs.has_label.Statement.{statement}
+use Rattle.finding.proofs.has_label.Tie as tie
 
 returns : tie.Need-returns
 returns c = slot-low _ _ _ (c .if1 .taken)

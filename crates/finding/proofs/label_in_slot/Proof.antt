@@ -2,11 +2,11 @@
 -- Assumes nothing.
 use mathlib.Core.Path.{sym, _∙_}
 use borrow.Author.Tests.{not-true, not-false}
 use Rattle.volume.proofs.NumberLaws.{slotted-of}
-use Rattle.volume.proofs.FindLaws.{room-there, slot-label-refused, no-label-there, label-there}
+use Rattle.finding.proofs.FindLaws.{room-there, slot-label-refused, no-label-there, label-there}
 use borrow.Author.Needs.{needs}
-use Rattle.volume.proofs.label_in_slot.Statement.{statement}
-use Rattle.volume.proofs.label_in_slot.Tie as tie
+use Rattle.finding.proofs.label_in_slot.Statement.{statement}
+use Rattle.finding.proofs.label_in_slot.Tie as tie
 
 judge-requires : tie.Need-judge-requires
 judge-requires c κs = search needs

@@ -1,11 +1,16 @@
 -- `is_named` meets its contract.
 -- Assumes nothing.
 use mathlib.Core.Path.{sym, ap, _∙_}
+use mathlib.Core.List.{List}
+use Prim.Native.Nat.{ℕ}
+use denote.Ref.{now}
 use borrow.Author.Tests.{not-true, not-false}
-use Rattle.volume.proofs.FindLaws.{unnamed, named-by}
+use Rattle.standard.specs.Characters.{same}
+use Rattle.standard.specs.Labels.{nameOf}
+use Rattle.finding.proofs.FindLaws.{unnamed, named-by}
 use borrow.Author.Needs.{needs}
-use Rattle.volume.proofs.is_named.Statement.{statement}
-use Rattle.volume.proofs.is_named.Tie as tie
+use Rattle.finding.proofs.is_named.Statement.{statement}
+use Rattle.finding.proofs.is_named.Tie as tie
 
 is-known-requires : tie.Need-is-known-requires
 is-known-requires c κs = search needs
@@ -20,7 +25,11 @@ name-is-requires : tie.Need-name-is-requires
 name-is-requires c κs = search needs
 
 returns-2 : tie.Need-returns-2
-returns-2 c = named-by _ _ _ _ _ (sym (c .before .before .before .is-known .ensures) ∙ not-false (c .before .before .before .is-known .result) (c .before .before .if1 .left)) (cc)
+returns-2 c =
+    let x = c .before .before .before .before .before .before .args in
+    let known = c .before .before .before .is-known in
+    let there = sym (known .ensures) ∙ not-false (known .result) (c .before .before .if1 .left) in
+    named-by _ _ _ _ _ there (c .name-is .ensures ∙ ap (λ (l : List ℕ). same (nameOf l) (now (x .name))) (c .before .label-at .ensures .0))
 
 pub is-named-spec : {M : Type 1} → statement M
 is-named-spec =

@@ -6,12 +6,12 @@ use mathlib.Core.Path.{_≡_}
 use denote.Ref.{now}
 use Rattle.standard.specs.Layout.{slotCount}
 use Rattle.standard.specs.Finding.{foundFrom}
-use Rattle.volume.specs.Slot.{slotIn, slotNamed}
-use Rattle.volume.proofs.FindLaws.{walk-start, walk-met, walk-more, walk-end}
+use Rattle.finding.specs.Slot.{slotIn, slotNamed}
+use Rattle.finding.proofs.FindLaws.{walk-start, walk-met, walk-more, walk-end}
 use borrow.Author.Needs.{needs}
 use native.Mathlib.Omega.{arith}
-use Rattle.volume.proofs.slot_named.Statement.{statement}
-use Rattle.volume.proofs.slot_named.Tie as tie
+use Rattle.finding.proofs.slot_named.Statement.{statement}
+use Rattle.finding.proofs.slot_named.Tie as tie
 
 abbrev Inv-loop : tie.InvT-loop
 Inv-loop g image name n i₀ i = (i ≤ n) × (slotNamed g image name ≡ slotIn (foundFrom g image name (n - i) (i + 1)))

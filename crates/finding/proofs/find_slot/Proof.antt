@@ -2,12 +2,12 @@
 -- Assumes nothing.
 use mathlib.Core.Path.{sym, ap, _∙_}
 use Rattle.standard.specs.declared.Found.the-variants.{Unfound}
 use Rattle.volume.specs.Stages.{refusalOf}
 use Rattle.volume.proofs.NumberLaws.{slotted-of}
-use Rattle.volume.proofs.FindLaws.{room-there, slot-refused, no-slot, slot-there}
+use Rattle.finding.proofs.FindLaws.{room-there, slot-refused, no-slot, slot-there}
 use borrow.Author.Needs.{needs}
-use Rattle.volume.proofs.find_slot.Statement.{statement}
-use Rattle.volume.proofs.find_slot.Tie as tie
+use Rattle.finding.proofs.find_slot.Statement.{statement}
+use Rattle.finding.proofs.find_slot.Tie as tie
 
 judge-requires : tie.Need-judge-requires
 judge-requires c κs = search needs

@@ -2,11 +2,11 @@
 -- Assumes nothing.
 use mathlib.Core.Path.{sym, ap, _∙_}
 use Rattle.index.specs.declared.Extent.{Extent}
-use Rattle.volume.proofs.FreeLaws.{size-is}
+use Rattle.vacancy.proofs.FreeLaws.{size-is}
 use native.Mathlib.Omega.{arith}
 use borrow.Author.Needs.{needs}
-use Rattle.volume.proofs.size_in.Statement.{statement}
-use Rattle.volume.proofs.size_in.Tie as tie
+use Rattle.vacancy.proofs.size_in.Statement.{statement}
+use Rattle.vacancy.proofs.size_in.Tie as tie
 
 extent-in-requires : tie.Need-extent-in-requires
 extent-in-requires c κs = search needs

@@ -9,9 +9,9 @@ use mathlib.Core.Path.{_≡_}
 use denote.Ref.{now}
 use Rattle.standard.specs.Layout.{slotCount}
 use Rattle.promises.specs.FreeLaws.{extentsBelow}
-use Rattle.volume.proofs.FreeLaws.{extents-none, extents-more}
-use Rattle.volume.proofs.used.Statement.{statement}
-use Rattle.volume.proofs.used.Tie as tie
+use Rattle.vacancy.proofs.FreeLaws.{extents-none, extents-more}
+use Rattle.vacancy.proofs.used.Statement.{statement}
+use Rattle.vacancy.proofs.used.Tie as tie
 
 abbrev Inv-loop : tie.InvT-loop
 Inv-loop g image n total₀ i₀ total i = (i ≤ n) × (total ≤ i * 4294967296) × (total ≡ extentsBelow g image i)

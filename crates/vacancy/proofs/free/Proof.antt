@@ -2,11 +2,11 @@
 -- Assumes nothing.
 use mathlib.Core.Path.{sym, ap, _∙_}
 use Rattle.standard.specs.declared.Counted.the-variants.{Uncounted}
 use Rattle.volume.specs.Stages.{refusalOf}
-use Rattle.volume.proofs.FreeLaws.{free-answer, free-refused}
+use Rattle.vacancy.proofs.FreeLaws.{free-answer, free-refused}
 use borrow.Author.Needs.{needs}
-use Rattle.volume.proofs.free.Statement.{statement}
-use Rattle.volume.proofs.free.Tie as tie
+use Rattle.vacancy.proofs.free.Statement.{statement}
+use Rattle.vacancy.proofs.free.Tie as tie
 
 judge-requires : tie.Need-judge-requires
 judge-requires c κs = search needs

@@ -24,7 +24,7 @@ use Rattle.promises.specs.AcceptedLaws.{has-slot}
 use Rattle.layout.specs.Room.{Room}
 use Rattle.index.specs.Whole.{Whole, Slotted}
 use Rattle.index.proofs.NameLaws.{knownIn}
-use Rattle.volume.specs.Slot.{slotIn, slotNamed}
+use Rattle.finding.specs.Slot.{slotIn, slotNamed}
 
 -- a slot that has a label: of any number
 module _ (g : Geometry) (image : List ℕ) (slot : ℕ) where
