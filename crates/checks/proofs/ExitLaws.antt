@@ -4,13 +4,13 @@ use Prim.Native.Nat.{ℕ}
 use mathlib.Core.Path.{_≡_, refl, sym, ap, _∙_}
 use mathlib.Core.Bool.{Bool, true, false, cond, not, _&&_, _||_, and-true, and-false}
 use mathlib.Core.List.{List, [], _∷_, _++_}
-use lib.Dec.{ltb}
+use lib.Dec.{ltb, eqb}
 use lib.ListN.{take, drop}
 use lib.Seq.{take-add, drop-drop}
 use borrow.Author.Tests.{eqb-true}
 use Rattle.standard.specs.Characters.{between, field, every, aSet, inASet, isSpace, spaces, digits, number}
 use Rattle.standard.specs.Addresses.{rank, before, isAddress, isDataEnd}
-use Rattle.standard.specs.Labels.{levelSpace, levelOne, nameOf, startOf, endOf, dataEndOf, blockLength, recordLength, unusedCount, rule6, rule29, rule35, rule75, spacesOrDate}
+use Rattle.standard.specs.Labels.{level, levelSpace, levelOne, nameOf, startOf, endOf, dataEndOf, blockLength, recordLength, unusedCount, rule6, rule29, rule35, rule75, spacesOrDate}
 use Rattle.standard.specs.declared.Geometry.{Geometry}
 use Rattle.fields.specs.Numbers.{perhaps}
 use Rattle.fields.specs.declared.Perhaps.{Perhaps}
@@ -20,6 +20,9 @@ use Rattle.promises.specs.Basics.{and-l, and-r}
 use Rattle.checks.specs.Parts.{blankOr}
 
 -- tests joined
+pub either : (a b p q : Bool) → a ≡ p → b ≡ q → (a || b) ≡ (p || q)
+either a b p q h k = rw (h, k)
+
 pub or-here : (a b : Bool) → a ≡ true → true ≡ (a || b)
 or-here a b e = rw e
 
@@ -56,6 +59,9 @@ module _ (h : List ℕ) where
 
   pub name-spaced : spaces (field h 14 22) ≡ true → inASet (field h 6 13) ≡ (inASet (nameOf h) && spaces (field h 14 22))
   name-spaced n = rw (n, name-both, charted (field h 14 22) n) (sym (and-true (inASet (field h 6 13) && true) ∙ and-true (inASet (field h 6 13))))
+
+  pub short-level : (c : ℕ) (t : Bool) → c ≡ level h → (eqb c 32 || eqb c 49) ≡ t → (levelSpace h || levelOne h) ≡ t
+  short-level c t e k = sym (ap (λ (n : ℕ). eqb n 32 || eqb n 49) e) ∙ k
 
   pub name-short : (levelSpace h || levelOne h) ≡ true → (inASet (nameOf h) && spaces (field h 14 22)) ≡ rule6 h
   unfolding rule6
@@ -135,7 +141,7 @@ module _ (f : List ℕ) where
   unfolding spacesOrDate
   date-no t d = rw (t, d)
 
-  pub date-is : (m d : ℕ) → spaces f ≡ false → digits f ≡ true → m ≡ number (field f 3 4) → d ≡ number (field f 5 6)
-      → (between 1 12 m && between 1 31 d) ≡ spacesOrDate f
+  pub date-is : (m d : ℕ) (p q : Bool) → spaces f ≡ false → digits f ≡ true → m ≡ number (field f 3 4) → d ≡ number (field f 5 6)
+      → p ≡ between 1 12 m → q ≡ between 1 31 d → (p && q) ≡ spacesOrDate f
   unfolding spacesOrDate
-  date-is m d t u e k = rw (t, u, e, k)
+  date-is m d p q t u e k hp hq = rw (hp, hq, t, u, e, k)

@@ -1,7 +1,7 @@
 -- The fields of a line as their parts in a row.
 -- Assumes nothing.
-use Prim.Native.Nat.{ℕ, _+_, _<_, _≤_}
-use mathlib.Core.Path.{_≡_, refl, sym, ap, _∙_}
+use Prim.Native.Nat.{ℕ, _+_, _/_, _%_, _<_, _≤_}
+use mathlib.Core.Path.{_≡_, refl, sym, ap, subst, _∙_}
 use mathlib.Core.List.{List, [], _∷_, _++_}
 use lib.ListN.{length, getD, take, drop, length-take, drop-of-length-le}
 use lib.Seq.{drop-cons}
@@ -14,7 +14,8 @@ use Rattle.standard.specs.declared.Place.{Place}
 use Rattle.standard.specs.declared.Refusal.{Refusal}
 use Rattle.standard.specs.declared.Answer.{Answer}
 use Rattle.standard.specs.declared.Answer.the-variants.{Unanswered, Gap, End, Record as RecordOf}
-use Rattle.following.specs.Lines.{spaced, placeFields, pairOf, hexOf, bodyField, refusedFields, recordFields, answerFields, modeOf}
+use Rattle.text.specs.Laid.{Puts}
+use Rattle.following.specs.Lines.{spaced, placeFields, hexDigit, pairOf, hexOf, bodyField, refusedFields, recordFields, answerFields, modeOf}
 
 -- byte after byte
 pub hex-more : (body : List ℕ) (i : ℕ) → i < length body → hexOf (drop i body) ≡ pairOf (getD body i 0) ++ hexOf (drop (i + 1) body)
@@ -59,3 +60,8 @@ letter-s letter h = rw (eq-eqb letter 115 h)
 
 pub letter-other : (letter : ℕ) → (letter ≡ 115 → ⊥) → plain ≡ modeOf letter
 letter-other letter h = rw (ne-eqb letter 115 h)
+
+-- a byte as two digits
+pub digits-pair : (b h l : ℕ) → h ≡ hexDigit (b / 16) → l ≡ hexDigit (b % 16) → h ∷ l ∷ [] ≡ pairOf b
+unfolding pairOf
+digits-pair b h l e f = rw (e, f)

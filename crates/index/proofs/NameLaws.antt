@@ -87,8 +87,9 @@ module _ (g : Geometry) (image : List ℕ) where
     pub lower-unknown : knownIn slot ≡ true → knownIn lower ≡ false → false ≡ namesake g image slot lower
     lower-unknown k l = rw (k, l) at (namesake-is slot lower)
 
-    pub both-known : (r : Bool) → knownIn slot ≡ true → knownIn lower ≡ true → r ≡ sameIn slot lower → r ≡ namesake g image slot lower
-    both-known r k l e = e ∙ (rw (k, l) at (namesake-is slot lower))
+    pub both-known : (r : Bool) (a b : List ℕ) → knownIn slot ≡ true → knownIn lower ≡ true → r ≡ same (nameOf a) (nameOf b) → a ≡ labelAt g image slot → b ≡ labelAt g image lower
+        → r ≡ namesake g image slot lower
+    both-known r a b k l e p q = e ∙ ap (λ (x : List ℕ). same (nameOf x) (nameOf b)) p ∙ ap (λ (x : List ℕ). same (nameOf (labelAt g image slot)) (nameOf x)) q ∙ (rw (k, l) at (namesake-is slot lower))
 
   -- the row of numbers
   pub keyed-more : (keys : List ℕ) (i key : ℕ) → i < length keys → Keyed g image keys i → key ≡ keyIn g image (i + 1) → Keyed g image (set keys i key) (i + 1)

@@ -4,6 +4,7 @@ use Prim.Native.Nat.{ℕ, _+_, _-_, _*_, _<_, _≤_}
 use mathlib.Core.Path.{_≡_, refl, ap, _∙_}
 use mathlib.Core.List.{List}
 use lib.ListN.{getD, take, drop}
+use lib.Dec.{eqb}
 use native.Mathlib.Omega.{arith}
 use borrow.Author.Tests.{lt-ltb, le-ltb, le-leb, lt-leb, eq-eqb, ne-eqb}
 use Rattle.standard.specs.Layout.{ordinalAt, indexSectors, kAt, kindOffset, bodyOffset, kindAt, firstByte, slotCount, slotOrdinal, labelOffset, labelAt}
@@ -73,8 +74,21 @@ pub skip-above : (d c : ℕ) → c < d → c ≡ skipOne d c
 unfolding skipOne
 skip-above d c h = simp (lt-ltb 0 d (omega arith), lt-leb d c h)
 
+pub first-physical : (c q : ℕ) → 1 ≤ c → c ≤ q → 1 ≤ q
+first-physical c q h k = omega arith
+
+pub track-sectors : (g : Geometry) (q s m w d t : ℕ) → m ≡ (q - 1) * w → w ≡ g .S → t ≡ (m + s) * d → d ≡ g .D → t ≡ ((q - 1) * g .S + s) * g .D
+track-sectors g q s m w d t hm hw ht hd = cc
+
+pub ordinal-small : (f q c m s t n : ℕ) → f < 65536 → q ≤ c + 2 → c < 3000 → m ≤ (q - 1) * 255 → s < 256 → t ≤ (m + s) * 255 → n < 3000 → f + t + (n - 1) < 4294967296
+ordinal-small f q c m s t n hf hq hc hm hs ht hn = omega arith
+
 pub ordinal-from : (g : Geometry) (a : Address) (f t q : ℕ) → f ≡ indexSectors g → q ≡ physical g (a .cylinder) → 1 ≤ q
     → t ≡ ((q - 1) * g .S + a .side) * g .D → f + t + (a .sector - 1) ≡ ordinal g a
 unfolding ordinal ordinalAt
 ordinal-from g a f t q e p h u =
     rw (u, e, p) (simp (ne-eqb (physical g (a .cylinder)) 0 (λ (z : physical g (a .cylinder) ≡ 0). omega arith)))
+
+-- a kind byte against a mark
+pub marked : (a b x y : ℕ) → a ≡ x → b ≡ y → eqb a b ≡ eqb x y
+marked a b x y h k = rw (h, k)

@@ -4,13 +4,15 @@ use Prim.Native.Nat.{ℕ, _+_, _-_, _*_, _^_, _<_, _≤_}
 use mathlib.Core.Path.{_≡_, refl, sym, ap, _∙_}
 use mathlib.Core.Bool.{Bool, true, false, cond, not, _&&_, _||_}
 use mathlib.Core.List.{List, [], _∷_}
-use lib.Dec.{leb, eqb}
+use lib.Dec.{ltb, leb, eqb}
 use native.Mathlib.Omega.{arith}
 use borrow.Author.Tests.{le-leb, lt-leb, eq-eqb, ne-eqb}
-use Rattle.standard.specs.Characters.{at, field, every, isDigit, digits, digitValue, number, numberFrom, hex, spaces}
+use Rattle.standard.specs.Characters.{at, between, field, every, isDigit, digits, digitValue, number, numberFrom, hex, spaces}
 use Rattle.standard.specs.Rules.{lowestFault}
 use Rattle.standard.specs.Volume.{vol1Rules, volumeL, volumeI, volumeD, volumeK, volumeS}
 use Rattle.standard.specs.Defects.{isCylinder, cylinderIn, ermapRule7, ermapRule11, ermapRules, defectIn, defect1, defect2}
+use Rattle.standard.specs.declared.Geometry.{Geometry}
+use Rattle.numbers.specs.Numbers.{defected}
 use Rattle.fields.proofs.LoopLaws.{digit-most}
 use Rattle.promises.specs.Basics.{either, lt-or-le, by-test, and-l, and-r, or-rest}
 use Rattle.promises.specs.Judging.{rows-each}
@@ -98,3 +100,18 @@ module _ (f : List ℕ) (r : ℕ) where
 
   pub defect-some : spaces f ≡ false → r ≡ cylinderIn f → r ≡ defectIn f
   defect-some t e = simp t e
+
+-- the rules of ERMAP's two cylinders, joined from the code's tests
+pub first-joined : (l : ℕ) (f : List ℕ) (n : ℕ) (s y b : Bool) → s ≡ spaces f → y ≡ isCylinder f → n ≡ cylinderIn f → b ≡ between 1 l n
+    → (s || (y && b)) ≡ (spaces f || (isCylinder f && between 1 l (cylinderIn f)))
+first-joined l f n s y b hs hy hn hb = rw (hb, hs, hy, hn)
+
+pub second-joined : (l : ℕ) (e f : List ℕ) (c d below : ℕ) (s y t : Bool) → s ≡ spaces f → y ≡ isCylinder f → t ≡ spaces e → c ≡ cylinderIn e → d ≡ cylinderIn f → below ≡ d - 1
+    → (s || (y && not t && ltb c d && leb below l)) ≡ (spaces f || (isCylinder f && not (spaces e) && ltb (cylinderIn e) (cylinderIn f) && leb (cylinderIn f) (l + 1)))
+second-joined l e f c d below s y t hs hy ht hc hd hb = rw (hb, hs, hy, ht, hc, hd, at-most (cylinderIn f) l)
+
+-- the numbers with the defective cylinders
+pub defects-put : (g : Geometry) (e : List ℕ) (a b : ℕ) → a ≡ defect1 e → b ≡ defect2 e
+    → record { L = g .L; I = g .I; D = g .D; k = g .k; P = g .P; S = g .S; d1 = a; d2 = b } ≡ defected g e
+unfolding defected
+defects-put g e a b ha hb = rw (ha, hb)

@@ -48,7 +48,7 @@ fill-run-requires : tie.Need-fill-run-requires Inv-loop μ-loop
 fill-run-requires c κs =
     let x = c .before .before .before .before .before .before .before .args in
     let w = c .before .before .before .before .loop in
-    omega (arith, run-inside (x .g) (now (x .image)) (w .c) (w .i) (x .g .P - w .i) (cc) (omega arith) (w .inv .1) (omega (arith, w .inv .2)), c .byte-offset .ensures .0, w .inv .2)
+    omega (arith, run-inside (x .g) (now (x .image)) (w .c) (w .i) (x .g .P - w .i) (c .before .before .before .before .before .before .before .pre .0 .0) (omega arith) (w .inv .1) (omega (arith, w .inv .2)), c .byte-offset .ensures .0, w .inv .2)
 
 returns-2 : tie.Need-returns-2 Inv-loop μ-loop
 returns-2 c =
@@ -56,7 +56,7 @@ returns-2 c =
     let w = c .before .before .before .before .before .before .loop in
     let k = c .before .before .before .before .before .before .before .wide16 .result - w .i in
     let o = c .before .before .byte-offset in
-    let f = run-fill (x .g) (now (x .image)) (w .c) (w .i) k (o .result) (cc) (omega arith) (w .inv .1) (omega (arith, w .inv .2)) (o .ensures .0) in
+    let f = run-fill (x .g) (now (x .image)) (w .c) (w .i) k (o .result) (c .before .before .before .before .before .before .before .before .before .pre .0 .0) (omega arith) (w .inv .1) (omega (arith, w .inv .2)) (o .ensures .0) in
     let t = sym f ∙ (sym (c .before .fill-run .ensures) ∙ not-true (c .before .fill-run .result) (c .if2 .taken)) in
     sym (sym (w .inv .0) ∙ fill-not k (w .n) (stream (x .g) (now (x .image)) (w .c) (w .i)) (omega arith) t)
 
@@ -78,10 +78,10 @@ loop-again c =
     let p : w .i + k ≡ x .g .P = omega (arith, w .inv .2) in
     let less : w .n - k ≤ x .count = omega (arith, w .inv .3) in
     let some : 0 < x .g .P = omega arith in
-    let f = run-fill (x .g) (now (x .image)) (w .c) (w .i) k (o .result) (cc) (omega arith) (w .inv .1) (omega (arith, p)) (o .ensures .0) in
+    let f = run-fill (x .g) (now (x .image)) (w .c) (w .i) k (o .result) (c .before .before .before .before .before .before .before .before .before .before .pre .0 .0) (omega arith) (w .inv .1) (omega (arith, p)) (o .ensures .0) in
     let t = sym f ∙ (sym (c .before .before .fill-run .ensures) ∙ not-false (c .before .before .fill-run .result) (c .before .if2 .left)) in
     let s = stream (x .g) (now (x .image)) (w .c) (w .i) in
-    let next = stream-next (x .g) (now (x .image)) (w .c) (c .next-good .result) (w .i) k (cc) (w .inv .1) (c .next-good .ensures .0) p in
+    let next = stream-next (x .g) (now (x .image)) (w .c) (c .next-good .result) (w .i) k (c .before .before .before .before .before .before .before .before .before .before .pre .0 .0) (w .inv .1) (c .next-good .ensures .0) p in
     (ap (λ (u : List ℕ). isFill (take (w .n - k) u)) next ∙ (fill-on k (w .n) s (omega arith) t ∙ w .inv .0), c .next-good .ensures .1, some, less)
 
 returns-3 : tie.Need-returns-3 Inv-loop μ-loop
@@ -97,14 +97,14 @@ fill-run-requires-2 : tie.Need-fill-run-requires-2 Inv-loop μ-loop
 fill-run-requires-2 c κs =
     let x = c .before .before .before .before .before .before .before .args in
     let w = c .before .before .before .before .loop in
-    omega (arith, run-inside (x .g) (now (x .image)) (w .c) (w .i) (w .n) (cc) (omega arith) (w .inv .1) (omega (arith, w .inv .2)), c .byte-offset2 .ensures .0)
+    omega (arith, run-inside (x .g) (now (x .image)) (w .c) (w .i) (w .n) (c .before .before .before .before .before .before .before .pre .0 .0) (omega arith) (w .inv .1) (omega (arith, w .inv .2)), c .byte-offset2 .ensures .0)
 
 returns-4 : tie.Need-returns-4 Inv-loop μ-loop
 returns-4 c =
     let x = c .before .before .before .before .before .before .before .before .args in
     let w = c .before .before .before .before .before .loop in
     let o = c .before .byte-offset2 in
-    c .fill-run2 .ensures ∙ (run-fill (x .g) (now (x .image)) (w .c) (w .i) (w .n) (o .result) (cc) (omega arith) (w .inv .1) (omega (arith, w .inv .2)) (o .ensures .0) ∙ w .inv .0)
+    c .fill-run2 .ensures ∙ (run-fill (x .g) (now (x .image)) (w .c) (w .i) (w .n) (o .result) (c .before .before .before .before .before .before .before .before .pre .0 .0) (omega arith) (w .inv .1) (omega (arith, w .inv .2)) (o .ensures .0) ∙ w .inv .0)
 
 pub all-fill-spec : {M : Type 1} → statement M
 all-fill-spec =

@@ -34,7 +34,7 @@ loop-holds : tie.Need-loop-holds Inv-loop μ-loop
 loop-holds c =
     let x = c .before .before .before .before .args in
     let z : x .count - x .count ≡ 0 = omega arith in
-    (omega arith, omega arith, refl, paste-zero (now (x .out)) (x .to) (stream (x .g) (now (x .image)) (x .from) (x .first)) ∙ ap (paste (now (x .out)) (x .to) (stream (x .g) (now (x .image)) (x .from) (x .first))) (sym z), ap (λ (k : ℕ). drop k (stream (x .g) (now (x .image)) (x .from) (x .first))) (sym z), cc, omega arith, omega arith)
+    (omega arith, omega arith, refl, paste-zero (now (x .out)) (x .to) (stream (x .g) (now (x .image)) (x .from) (x .first)) ∙ ap (paste (now (x .out)) (x .to) (stream (x .g) (now (x .image)) (x .from) (x .first))) (sym z), ap (λ (k : ℕ). drop k (stream (x .g) (now (x .image)) (x .from) (x .first))) (sym z), c .before .before .before .before .pre .1, c .before .before .before .before .pre .2, omega arith)
 
 sub-loop : tie.Need-sub-loop Inv-loop μ-loop
 sub-loop c = search needs
@@ -57,7 +57,7 @@ copy-run-requires c κs =
     let k = c .before .before .before .before .wide16 .result - w .i in
     let l : w .n ≤ length (stream (x .g) (now (x .image)) (w .c) (w .i)) = rw (w .inv .4, length-drop (x .count - w .n) (stream (x .g) (now (x .image)) (x .from) (x .first))) (omega (arith, w .inv .0)) in
     let s = stream-some (x .g) (now (x .image)) (w .c) (w .i) (omega (arith, l, w .inv .7)) in
-    (omega (arith, run-inside (x .g) (now (x .image)) (w .c) (w .i) k (cc) s (w .inv .5) (omega (arith, w .inv .6)), c .before .byte-offset .ensures .0), omega (arith, w .inv .0, w .inv .1, w .inv .2))
+    (omega (arith, run-inside (x .g) (now (x .image)) (w .c) (w .i) k (c .before .before .before .before .before .before .before .before .pre .0 .0) s (w .inv .5) (omega (arith, w .inv .6)), c .before .byte-offset .ensures .0), omega (arith, w .inv .0, w .inv .1, w .inv .2))
 
 next-good-requires : tie.Need-next-good-requires Inv-loop μ-loop
 next-good-requires c κs =
@@ -92,10 +92,10 @@ loop-again c =
     let more : 1 ≤ w .n - k = omega arith in
     let l : w .n ≤ length (stream (x .g) (now (x .image)) (w .c) (w .i)) = rw (w .inv .4, length-drop (x .count - w .n) (stream (x .g) (now (x .image)) (x .from) (x .first))) (omega (arith, w .inv .0)) in
     let s = stream-some (x .g) (now (x .image)) (w .c) (w .i) (omega (arith, l, w .inv .7)) in
-    let r = paste-run (x .g) (now (x .image)) (w .c) (w .i) k (o .result) (w .out) (w .at) (cc) s (w .inv .5) (omega (arith, p)) (o .ensures .0) in
+    let r = paste-run (x .g) (now (x .image)) (w .c) (w .i) k (o .result) (w .out) (w .at) (c .before .before .before .before .before .before .before .before .before .before .before .before .pre .0 .0) s (w .inv .5) (omega (arith, p)) (o .ensures .0) in
     let t = paste-turn (now (x .out)) (x .to) (stream (x .g) (now (x .image)) (x .from) (x .first)) (x .count - w .n) k (x .count - (w .n - k)) (w .out) (w .at) (stream (x .g) (now (x .image)) (w .c) (w .i)) (omega arith) (omega arith) z (w .inv .3) (w .inv .1) (w .inv .4) in
     let q = c .before .before .before .copy-run .ensures ∙ (r ∙ t) in
-    let next = stream-next (x .g) (now (x .image)) (w .c) (c .next-good .result) (w .i) k (cc) (w .inv .5) (c .next-good .ensures .0) p in (
+    let next = stream-next (x .g) (now (x .image)) (w .c) (c .next-good .result) (w .i) k (c .before .before .before .before .before .before .before .before .before .before .before .before .pre .0 .0) (w .inv .5) (c .next-good .ensures .0) p in (
       hn,
       ha,
       ap length q ∙ length-paste (now (x .out)) (x .to) (stream (x .g) (now (x .image)) (x .from) (x .first)) (x .count - (w .n - k)) hd hs,
@@ -120,7 +120,7 @@ copy-run-requires-2 c κs =
     let w = c .before .before .before .loop in
     let l : w .n ≤ length (stream (x .g) (now (x .image)) (w .c) (w .i)) = rw (w .inv .4, length-drop (x .count - w .n) (stream (x .g) (now (x .image)) (x .from) (x .first))) (omega (arith, w .inv .0)) in
     let s = stream-some (x .g) (now (x .image)) (w .c) (w .i) (omega (arith, l, w .inv .7)) in
-    (omega (arith, run-inside (x .g) (now (x .image)) (w .c) (w .i) (w .n) (cc) s (w .inv .5) (omega (arith, w .inv .6)), c .before .byte-offset2 .ensures .0), omega (arith, w .inv .0, w .inv .1, w .inv .2))
+    (omega (arith, run-inside (x .g) (now (x .image)) (w .c) (w .i) (w .n) (c .before .before .before .before .before .before .before .before .pre .0 .0) s (w .inv .5) (omega (arith, w .inv .6)), c .before .byte-offset2 .ensures .0), omega (arith, w .inv .0, w .inv .1, w .inv .2))
 
 same-length : tie.Need-same-length Inv-loop μ-loop
 same-length c = search needs
@@ -133,7 +133,7 @@ returns-2 c =
     let l : w .n ≤ length (stream (x .g) (now (x .image)) (w .c) (w .i)) = rw (w .inv .4, length-drop (x .count - w .n) (stream (x .g) (now (x .image)) (x .from) (x .first))) (omega (arith, w .inv .0)) in
     let s = stream-some (x .g) (now (x .image)) (w .c) (w .i) (omega (arith, l, w .inv .7)) in
     let z : x .count - w .n + w .n ≡ x .count = omega (arith, w .inv .0) in
-    let r = paste-run (x .g) (now (x .image)) (w .c) (w .i) (w .n) (o .result) (w .out) (w .at) (cc) s (w .inv .5) (omega (arith, w .inv .6)) (o .ensures .0) in
+    let r = paste-run (x .g) (now (x .image)) (w .c) (w .i) (w .n) (o .result) (w .out) (w .at) (c .before .before .before .before .before .before .before .before .before .before .before .pre .0 .0) s (w .inv .5) (omega (arith, w .inv .6)) (o .ensures .0) in
     let t = paste-turn (now (x .out)) (x .to) (stream (x .g) (now (x .image)) (x .from) (x .first)) (x .count - w .n) (w .n) (x .count) (w .out) (w .at) (stream (x .g) (now (x .image)) (w .c) (w .i)) (omega arith) (omega arith) z (w .inv .3) (w .inv .1) (w .inv .4) in
     c .before .before .copy-run2 .ensures ∙ (r ∙ t)
 

@@ -23,12 +23,12 @@ byte-offset-requires c κs = search needs
 five-at-requires : tie.Need-five-at-requires
 five-at-requires c κs =
     let x = c .before .before .before .before .before .before .args in
-    omega (arith, run-inside (x .g) (now (x .image)) (x .c) (x .i) 5 (cc) (omega arith) (cc) (omega arith), c .byte-offset .ensures .0)
+    omega (arith, run-inside (x .g) (now (x .image)) (x .c) (x .i) 5 (c .before .before .before .before .before .before .pre .0 .0) (omega arith) (c .before .before .before .before .before .before .pre .1) (omega arith), c .byte-offset .ensures .0)
 
 returns : tie.Need-returns
 returns c =
     let x = c .before .before .before .before .before .before .before .args in
-    let e = sym (run-is (x .g) (now (x .image)) (x .c) (x .i) 5 (cc) (omega arith) (cc) (omega arith)) in
+    let e = sym (run-is (x .g) (now (x .image)) (x .c) (x .i) 5 (c .before .before .before .before .before .before .before .pre .0 .0) (omega arith) (c .before .before .before .before .before .before .before .pre .1) (omega arith)) in
     let f = c .five-at .ensures in
     (f .0 ∙ ap (λ (o : ℕ). fiveOf (drop o (now (x .image)))) (c .before .byte-offset .ensures .0) ∙ five-same _ _ e, f .1, f .2, f .3, f .4, f .5)
 

@@ -25,7 +25,7 @@ byte-at-requires c κs = search needs
 returns-2 : tie.Need-returns-2
 returns-2 c =
     let x = c .before .before .before .before .before .args in
-    (c .byte-at .ensures .0 ∙ (ap (λ (k : ℕ). getD (now (x .image)) k 0) (c .before .byte-offset .ensures .0) ∙ byte-is (x .g) (now (x .image)) (x .c) (x .i) (cc) (omega arith) (cc) (omega arith)), c .byte-at .ensures .1)
+    (c .byte-at .ensures .0 ∙ (ap (λ (k : ℕ). getD (now (x .image)) k 0) (c .before .byte-offset .ensures .0) ∙ byte-is (x .g) (now (x .image)) (x .c) (x .i) (c .before .before .before .before .before .pre .0 .0) (omega arith) (c .before .before .before .before .before .pre .1) (c .before .before .before .before .before .pre .2)), c .byte-at .ensures .1)
 
 pub here-spec : {M : Type 1} → statement M
 here-spec = tie.close (tie.spec returns byte-offset-requires byte-at-requires returns-2)

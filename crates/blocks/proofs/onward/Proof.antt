@@ -19,7 +19,7 @@ add-to c = search needs
 returns : tie.Need-returns
 returns c =
     let x = c .before .before .before .args in
-    (stream-in (x .g) (now (x .image)) (x .c) (x .i) (x .k), cc, omega arith, omega arith)
+    (stream-in (x .g) (now (x .image)) (x .c) (x .i) (x .k), c .before .before .before .pre .1, omega arith, omega arith)
 
 div-n : tie.Need-div-n
 div-n c = search needs
@@ -36,7 +36,7 @@ returns-2 c =
     let p = c .before .before .wide16 .result in
     let e = c .before .before .wide16 .ensures .0 in
     let q : (x .i + x .k) / p * x .g .P + (x .i + x .k) % p ≡ x .i + x .k = rw (sym e) (div-add-mod' (x .i + x .k) p) in
-    (stream-on (x .g) (now (x .image)) (x .c) (c .skip-good .result) (x .i) (x .k) ((x .i + x .k) / p) (cc) (cc) (c .skip-good .ensures .0) ((x .i + x .k) % p) q, c .skip-good .ensures .1, omega (arith, mod-lt (x .i + x .k) {m = p} (omega arith)), c .skip-good .ensures .2)
+    (stream-on (x .g) (now (x .image)) (x .c) (c .skip-good .result) (x .i) (x .k) ((x .i + x .k) / p) (c .before .before .before .before .pre .0 .0) (c .before .before .before .before .pre .1) (c .skip-good .ensures .0) ((x .i + x .k) % p) q, c .skip-good .ensures .1, omega (arith, mod-lt (x .i + x .k) {m = p} (omega arith)), c .skip-good .ensures .2)
 
 pub onward-spec : {M : Type 1} → statement M
 onward-spec =

@@ -1,5 +1,6 @@
 -- `blank_or` meets its contract: blank, or what the digits spell.
 -- Assumes nothing.
+use mathlib.Core.Path.{sym, _∙_}
 use borrow.Author.Needs.{needs}
 use Rattle.checks.proofs.ExitLaws.{blank-here, blank-own}
 use Rattle.checks.proofs.blank_or.Statement.{statement}
@@ -9,13 +10,13 @@ all-of-requires : tie.Need-all-of-requires
 all-of-requires c κs = search needs
 
 returns : tie.Need-returns
-returns c = blank-here _ _ (cc)
+returns c = blank-here _ _ (sym (c .before .all-of .ensures) ∙ c .if1 .taken)
 
 decimal-in-requires : tie.Need-decimal-in-requires
 decimal-in-requires c κs = search needs
 
 returns-2 : tie.Need-returns-2
-returns-2 c = blank-own _ _ _ (cc) (cc)
+returns-2 c = blank-own _ _ _ (sym (c .before .before .all-of .ensures) ∙ c .before .if1 .left) (c .decimal-in .ensures)
 
 pub blank-or-spec : {M : Type 1} → statement M
 blank-or-spec = tie.close (tie.spec all-of-requires returns decimal-in-requires returns-2)

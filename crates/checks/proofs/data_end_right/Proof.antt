@@ -5,7 +5,7 @@ use borrow.Author.Tests.{not-true, not-false}
 use borrow.Author.Needs.{needs}
 use Rattle.standard.specs.Addresses.{rank}
 use Rattle.fields.proofs.AddressLaws.{no-data-end, data-end-legal, address-is, address-small}
-use Rattle.checks.proofs.ExitLaws.{data-end-no, data-end-is}
+use Rattle.checks.proofs.ExitLaws.{either, data-end-no, data-end-is}
 use Rattle.checks.proofs.data_end_right.Statement.{statement}
 use Rattle.checks.proofs.data_end_right.Tie as tie
 
@@ -39,7 +39,7 @@ past-last-requires c κs = search needs
 returns-2 : tie.Need-returns-2
 returns-2 c =
     let c1 = c .before .before .before .before in
-    data-end-no _ _ (sym (data-end-legal _ _ _ (sym (c1 .before .before .read .ensures) ∙ c1 .read2 .given .1)) ∙ not-true _ (cc))
+    data-end-no _ _ (sym (data-end-legal _ _ _ (sym (c1 .before .before .read .ensures) ∙ c1 .read2 .given .1)) ∙ sym (either _ _ _ _ (c .before .before .is-legal .ensures) (c .before .past-last .ensures)) ∙ not-true _ (c .if1 .taken))
 
 rank-of-requires : tie.Need-rank-of-requires
 rank-of-requires c κs =
@@ -50,7 +50,7 @@ returns-3 : tie.Need-returns-3
 returns-3 c =
     let c1 = c .before .before .before .before .before in
     let c2 = c1 .before .before .before .before .before in
-    data-end-is _ _ _ _ (sym (data-end-legal _ _ _ (sym (c1 .before .before .read .ensures) ∙ c1 .read2 .given .1)) ∙ not-false _ (cc)) (c .rank-of .ensures .0 ∙ ap (rank _) (address-is _ _ (sym (c1 .before .before .read .ensures) ∙ c1 .read2 .given .1))) (c2 .pre .2) (c2 .pre .1)
+    data-end-is _ _ _ _ (sym (data-end-legal _ _ _ (sym (c1 .before .before .read .ensures) ∙ c1 .read2 .given .1)) ∙ sym (either _ _ _ _ (c .before .before .before .is-legal .ensures) (c .before .before .past-last .ensures)) ∙ not-false _ (c .before .if1 .left)) (c .rank-of .ensures .0 ∙ ap (rank _) (address-is _ _ (sym (c1 .before .before .read .ensures) ∙ c1 .read2 .given .1))) (c2 .pre .2) (c2 .pre .1)
 
 pub data-end-right-spec : {M : Type 1} → statement M
 data-end-right-spec =

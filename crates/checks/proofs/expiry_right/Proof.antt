@@ -1,5 +1,6 @@
 -- `expiry_right` meets its contract.
 -- Assumes nothing.
+use mathlib.Core.Path.{sym, _∙_}
 use borrow.Author.Needs.{needs}
 use denote.Ref.{now}
 use Rattle.standard.specs.Labels.{spacesOrDate}
@@ -11,7 +12,7 @@ spaces-or-date-requires : tie.Need-spaces-or-date-requires
 spaces-or-date-requires c κs = search needs
 
 returns : tie.Need-returns
-returns c = or-here (spacesOrDate (now (c .before .before .before .args .f))) _ (cc)
+returns c = or-here (spacesOrDate (now (c .before .before .before .args .f))) _ (sym (c .before .spaces-or-date .ensures) ∙ c .if1 .taken)
 
 slice-aggregate-same-as : tie.Need-slice-aggregate-same-as
 slice-aggregate-same-as c = search needs
@@ -22,7 +23,7 @@ same-as-requires c κs = search needs
 returns-2 : tie.Need-returns-2
 returns-2 c =
     let c1 = c .before .before .before .before .before in
-    or-else (spacesOrDate (now (c1 .args .f))) _ _ (cc) (c .same-as .ensures)
+    or-else (spacesOrDate (now (c1 .args .f))) _ _ (sym (c .before .before .before .spaces-or-date .ensures) ∙ c .before .before .if1 .left) (c .same-as .ensures)
 
 pub expiry-right-spec : {M : Type 1} → statement M
 expiry-right-spec =

@@ -1,6 +1,6 @@
 -- `short_name` meets its contract: 14-22 decide, or 6-13.
 -- Assumes nothing.
-use mathlib.Core.Path.{_∙_}
+use mathlib.Core.Path.{sym, _∙_}
 use borrow.Author.Tests.{not-true, not-false}
 use borrow.Author.Needs.{needs}
 use denote.Ref.{now}
@@ -23,7 +23,7 @@ all-of-requires c κs = search needs
 returns : tie.Need-returns
 returns c =
     let c1 = c .before .before .before .before in
-    name-unspaced (now (c1 .args .h)) (not-true _ (cc))
+    name-unspaced (now (c1 .args .h)) (sym (c .before .all-of .ensures) ∙ not-true _ (c .if1 .taken))
 
 sub-all-of-2 : tie.Need-sub-all-of-2
 sub-all-of-2 c = search needs
@@ -40,7 +40,7 @@ all-of-requires-2 c κs = search needs
 returns-2 : tie.Need-returns-2
 returns-2 c =
     let c1 = c .before .before .before .before .before .before in
-    c .all-of2 .ensures ∙ name-spaced (now (c1 .args .h)) (not-false _ (cc))
+    c .all-of2 .ensures ∙ name-spaced (now (c1 .args .h)) (sym (c .before .before .before .all-of .ensures) ∙ not-false _ (c .before .before .if1 .left))
 
 pub short-name-spec : {M : Type 1} → statement M
 short-name-spec =

@@ -12,7 +12,7 @@ all-of-requires : tie.Need-all-of-requires
 all-of-requires c κs = search needs
 
 returns : tie.Need-returns
-returns c = date-blank _ (cc)
+returns c = date-blank _ (sym (c .before .all-of .ensures) ∙ c .if1 .taken)
 
 decimal-in-requires : tie.Need-decimal-in-requires
 decimal-in-requires c κs = search needs
@@ -24,7 +24,9 @@ enum-told-2 : tie.Need-enum-told-2
 enum-told-2 c = search needs
 
 returns-2 : tie.Need-returns-2
-returns-2 c = date-no _ (cc) (test-fails _ _ (sym (c .before .before .decimal-in .ensures) ∙ c .enum-told2 .given .1))
+returns-2 c =
+    let c1 = c .before .before .before in
+    date-no _ (sym (c1 .before .all-of .ensures) ∙ c1 .if1 .left) (test-fails _ _ (sym (c .before .before .decimal-in .ensures) ∙ c .enum-told2 .given .1))
 
 sub-number-2 : tie.Need-sub-number-2
 sub-number-2 c = search needs
@@ -61,7 +63,8 @@ returns-3 c =
     let c1 = c .before .before .before .before in
     let c2 = c1 .before .before .before .before in
     let c3 = c2 .before .before .before .before in
-    cc (date-is (now (c3 .args .f)) (c1 .number-2 .result) (c .before .number-22 .result) (cc) (test-holds _ _ _ (sym (c2 .decimal-in .ensures) ∙ c1 .before .before .enum-told .given .1)) (c1 .number-2 .ensures .0) (c .before .number-22 .ensures .0))
+    let unspaced = sym (c2 .before .before .all-of .ensures) ∙ c2 .before .if1 .left in
+    date-is (now (c3 .args .f)) _ _ _ _ unspaced (test-holds _ _ _ (sym (c2 .decimal-in .ensures) ∙ c1 .before .before .enum-told .given .1)) (c1 .number-2 .ensures .0) (c .before .number-22 .ensures .0) (c .before .before .before .in-range .ensures) (c .in-range2 .ensures)
 
 pub spaces-or-date-spec : {M : Type 1} → statement M
 spaces-or-date-spec =

@@ -1,8 +1,8 @@
 -- Those counted, and those from here on, are all.
 -- Assumes nothing.
 use Prim.Native.Nat.{_+_, _≤_, _<_}
-use mathlib.Core.Path.{_≡_}
-use mathlib.Core.Bool.{true, cond}
+use mathlib.Core.Path.{_≡_, ap, _∙_}
+use mathlib.Core.Bool.{Bool, true, cond}
 use lib.ListN.{length}
 use native.Mathlib.Omega.{arith}
 use denote.Ref.{now}
@@ -23,7 +23,7 @@ loop-holds : tie.Need-loop-holds Inv-loop μ-loop
 loop-holds c = (omega arith, search needs, omega arith, search needs)
 
 is-defective-requires : tie.Need-is-defective-requires Inv-loop μ-loop
-is-defective-requires c κs = legal-head _ _ _ (omega arith) (c .before .loop .inv .1)
+is-defective-requires c κs = legal-head _ _ _ (c .loop-test .taken) (c .before .loop .inv .1)
 
 one-unless-requires : tie.Need-one-unless-requires Inv-loop μ-loop
 one-unless-requires c κs = search needs
@@ -44,10 +44,12 @@ loop-again : tie.Need-loop-again Inv-loop μ-loop
 loop-again c =
     let x = c .before .before .before .before .before .before .before .args in
     let w = c .before .before .before .before .loop in
-    let o : c .before .one-unless .result ≡ cond (isDefective (x .g) (now (x .image)) (w .at)) 0 1 = cc in
+    let o : c .before .one-unless .result ≡ cond (isDefective (x .g) (now (x .image)) (w .at)) 0 1 =
+    c .before .one-unless .ensures .0 ∙ ap (λ (b : Bool). cond b 0 1) (c .before .before .is-defective .ensures) in
+    let more = c .before .before .before .loop-test .taken in
     rw (c .step .ensures) (
-      omega (arith, w .inv .0, o, good-length (x .g) (now (x .image)) (w .left) (w .at) (omega arith)),
-      legal-next _ _ _ (omega arith) (w .inv .1),
+      omega (arith, w .inv .0, o, good-length (x .g) (now (x .image)) (w .left) (w .at) more),
+      legal-next _ _ _ more (w .inv .1),
       omega (arith, w .inv .2, c .before .one-unless .ensures .1),
       w .inv .3,
     )

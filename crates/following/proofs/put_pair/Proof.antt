@@ -4,6 +4,7 @@ use mathlib.Core.Path.{_≡_}
 use mathlib.Core.List.{[], _∷_}
 use native.Mathlib.Omega.{arith}
 use Rattle.text.proofs.LaidLaws.{puts-as, puts-more}
+use Rattle.following.proofs.Laws.{digits-pair}
 use Rattle.following.specs.Lines.{pairOf}
 use borrow.Author.Needs.{needs}
 use Rattle.following.proofs.put_pair.Statement.{statement}
@@ -30,7 +31,8 @@ returns c =
     let p = c .before .before .before .before .before .before .before .put-byte .ensures in
     let q = c .before .before .put-byte2 .ensures in
     let b = c .before .before .before .before .before .before .before .before .before .before .before .args .b in
-    let e : c .before .before .before .before .before .before .before .before .hex-digit .result ∷ c .before .before .before .hex-digit2 .result ∷ [] ≡ pairOf b = cc in
+    let e : c .before .before .before .before .before .before .before .before .hex-digit .result ∷ c .before .before .before .hex-digit2 .result ∷ [] ≡ pairOf b =
+    digits-pair _ _ _ (c .before .before .before .before .before .before .before .before .hex-digit .ensures) (c .before .before .before .hex-digit2 .ensures) in
     (puts-as e (puts-more p q), omega (arith, p .next, q .next))
 
 pub put-pair-spec : {M : Type 1} → statement M

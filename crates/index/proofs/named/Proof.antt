@@ -5,13 +5,15 @@ use Rattle.index.proofs.ClashLaws.{from-start, from-stop, from-more, fr
 use Rattle.index.proofs.NameLaws.{keyed-more}
 use borrow.Author.Needs.{needs}
 use native.Mathlib.Omega.{arith}
-use Prim.Native.Nat.{_+_, _-_, _≤_}
+use Prim.Native.Nat.{ℕ, _+_, _-_, _≤_}
 use mathlib.Core.Path.{_≡_, sym, ap, _∙_}
+use mathlib.Core.List.{List}
 use denote.Ref.{now}
 use lib.ListN.{length}
 use Rattle.standard.specs.Layout.{slotCount}
+use Rattle.standard.specs.Labels.{nameOf}
 use Rattle.standard.specs.Judgement.{namesake, clashesFrom}
-use Rattle.index.specs.Names.{Keyed}
+use Rattle.index.specs.Names.{keyOf, Keyed}
 use Rattle.index.proofs.named.Statement.{statement}
 use Rattle.index.proofs.named.Tie as tie
 
@@ -81,7 +83,7 @@ loop-again c =
     let n = c .before .before .before .before .before .before .before .slot-count .result in (
       omega arith,
       search needs,
-      keyed-more (a .g) s (w .keys) (w .i) (c .before .before .before .name-key .result) (omega arith) (w .inv .2) (cc),
+      keyed-more (a .g) s (w .keys) (w .i) (c .before .before .before .name-key .result) (omega arith) (w .inv .2) (c .before .before .before .name-key .ensures ∙ ap (λ (l : List ℕ). keyOf (nameOf l)) (c .before .before .before .before .label-at .ensures .0)),
       w .inv .3 ∙ from-more (namesake (a .g) s) 12 n (w .i) (omega arith) (sym (c .before .named-below .ensures) ∙ c .if1 .left),
     )
 

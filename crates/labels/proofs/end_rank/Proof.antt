@@ -1,6 +1,7 @@
 -- `end_rank` meets its contract.
 -- Assumes nothing.
-use native.Mathlib.Omega.{arith}
+use mathlib.Core.Path.{ap, _∙_}
+use Rattle.standard.specs.Addresses.{rank}
 use borrow.Author.Needs.{needs}
 use Rattle.labels.proofs.end_rank.Statement.{statement}
 use Rattle.labels.proofs.end_rank.Tie as tie
@@ -12,7 +13,9 @@ rank-of-requires : tie.Need-rank-of-requires
 rank-of-requires c κs = search needs
 
 returns : tie.Need-returns
-returns c = (cc, omega arith)
+returns c =
+    let g = c .before .before .before .args .g in
+    (c .rank-of .ensures .0 ∙ ap (rank g) (c .before .end-of .ensures .0), c .rank-of .ensures .1)
 
 pub end-rank-spec : {M : Type 1} → statement M
 end-rank-spec = tie.close (tie.spec end-of-requires rank-of-requires returns)

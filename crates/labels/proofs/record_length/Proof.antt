@@ -1,8 +1,8 @@
 -- `record_length` meets its contract: B for a blank field, the number for another.
 -- Assumes nothing.
-use native.Mathlib.Omega.{arith}
+use mathlib.Core.Path.{sym, _∙_}
 use borrow.Author.Needs.{needs}
-use Rattle.labels.proofs.BlankLaws.{record-same, record-own}
+use Rattle.labels.proofs.BlankLaws.{four-small, record-same, record-own}
 use Rattle.labels.proofs.record_length.Statement.{statement}
 use Rattle.labels.proofs.record_length.Tie as tie
 
@@ -22,7 +22,7 @@ block-length-requires : tie.Need-block-length-requires
 block-length-requires c κs = search needs
 
 returns : tie.Need-returns
-returns c = (record-same _ _ (cc) (cc), omega arith)
+returns c = (record-same _ _ (sym (c .before .before .all-of .ensures) ∙ c .before .if1 .taken) (c .block-length .ensures .0), c .block-length .ensures .1)
 
 sub-number-4 : tie.Need-sub-number-4
 sub-number-4 c = search needs
@@ -37,7 +37,7 @@ number-4-requires : tie.Need-number-4-requires
 number-4-requires c κs = search needs
 
 returns-2 : tie.Need-returns-2
-returns-2 c = (record-own _ _ (cc) (cc), omega arith)
+returns-2 c = (record-own _ _ (sym (c .before .before .before .all-of .ensures) ∙ c .before .before .if1 .left) (c .number-4 .ensures .0), four-small _ (c .number-4 .ensures .1))
 
 pub record-length-spec : {M : Type 1} → statement M
 record-length-spec =

@@ -1,5 +1,6 @@
 -- `unused_count` meets its contract: 0 for a blank field, the number for another.
 -- Assumes nothing.
+use mathlib.Core.Path.{refl, sym, _∙_}
 use native.Mathlib.Omega.{arith}
 use borrow.Author.Needs.{needs}
 use Rattle.labels.proofs.BlankLaws.{unused-none, unused-some}
@@ -19,7 +20,7 @@ all-of-requires : tie.Need-all-of-requires
 all-of-requires c κs = search needs
 
 returns : tie.Need-returns
-returns c = (unused-none _ _ (cc) (cc), omega arith)
+returns c = (unused-none _ _ (sym (c .before .all-of .ensures) ∙ c .if1 .taken) refl, omega arith)
 
 sub-number-5 : tie.Need-sub-number-5
 sub-number-5 c = search needs
@@ -34,7 +35,7 @@ number-5-requires : tie.Need-number-5-requires
 number-5-requires c κs = search needs
 
 returns-2 : tie.Need-returns-2
-returns-2 c = (unused-some _ _ (cc) (cc), omega arith)
+returns-2 c = (unused-some _ _ (sym (c .before .before .before .all-of .ensures) ∙ c .before .before .if1 .left) (c .number-5 .ensures .0), c .number-5 .ensures .1)
 
 pub unused-count-spec : {M : Type 1} → statement M
 unused-count-spec =

@@ -1,6 +1,9 @@
 -- `check_failed` meets its contract.
 -- Assumes nothing.
+use Prim.Native.Nat.{ℕ, _+_}
+use mathlib.Core.Path.{ap}
 use Rattle.standard.specs.Layout.{checkFailed}
+use Rattle.layout.proofs.Laws.{marked}
 use borrow.Author.Needs.{needs}
 use Rattle.layout.proofs.check_failed.Statement.{statement}
 use Rattle.layout.proofs.check_failed.Tie as tie
@@ -16,7 +19,7 @@ kind-at-requires c κs = search needs
 
 returns : tie.Need-returns
 unfolding checkFailed
-returns c = cc
+returns c = marked _ _ _ _ (c .kind-at .ensures .0) (ap (λ (k : ℕ). 32 + k) (c .before .k-at .ensures .0))
 
 pub check-failed-spec : {M : Type 1} → statement M
 check-failed-spec = tie.close (tie.spec k-at-requires add-k kind-at-requires returns)

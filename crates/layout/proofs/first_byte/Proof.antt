@@ -1,7 +1,10 @@
 -- `first_byte` meets its contract.
 -- Assumes nothing.
+use Prim.Native.Nat.{ℕ, _+_}
+use mathlib.Core.Path.{ap, _∙_}
+use lib.ListN.{getD}
+use denote.Ref.{now}
 use Rattle.standard.specs.Layout.{firstByte, bodyOffset}
-use native.Mathlib.Omega.{arith}
 use borrow.Author.Needs.{needs}
 use Rattle.layout.proofs.first_byte.Statement.{statement}
 use Rattle.layout.proofs.first_byte.Tie as tie
@@ -17,7 +20,9 @@ byte-at-requires c κs = search needs
 
 returns : tie.Need-returns
 unfolding firstByte bodyOffset
-returns c = (cc, omega arith)
+returns c =
+    let s = now (c .before .before .before .args .image) in
+    (c .byte-at .ensures .0 ∙ ap (λ (o : ℕ). getD s (o + 1) 0) (c .before .kind-offset .ensures .0), c .byte-at .ensures .1)
 
 pub first-byte-spec : {M : Type 1} → statement M
 first-byte-spec = tie.close (tie.spec kind-offset-requires add-byte-at byte-at-requires returns)

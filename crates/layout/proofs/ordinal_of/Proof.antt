@@ -1,7 +1,6 @@
 -- `ordinal_of` meets its contract: a data cylinder is never the index cylinder.
 -- Assumes nothing.
-use native.Mathlib.Omega.{arith}
-use Rattle.layout.proofs.Laws.{ordinal-from}
+use Rattle.layout.proofs.Laws.{first-physical, track-sectors, ordinal-from, ordinal-small}
 use borrow.Author.Needs.{needs}
 use Rattle.layout.proofs.ordinal_of.Statement.{statement}
 use Rattle.layout.proofs.ordinal_of.Tie as tie
@@ -40,7 +39,15 @@ add-result-2 : tie.Need-add-result-2
 add-result-2 c = search needs
 
 returns : tie.Need-returns
-returns c = (ordinal-from _ _ _ _ (c .before .before .before .before .before .physical-of .result) (cc) (cc) (omega arith) (cc), omega arith)
+returns c =
+    let q = c .before .before .before .before .before .physical-of .ensures in
+    let first = c .before .before .index-sectors .ensures in
+    let tracks = c .before .before .before .times .ensures in
+    let x = c .before .before .before .before .before .before in
+    let t = track-sectors (x .args .g) _ _ _ _ _ _ (tracks .0) (c .before .before .before .before .wide .ensures .0) (c .times2 .ensures .0) (c .before .wide2 .ensures .0) in (
+      ordinal-from _ _ _ _ _ (first .0) (q .0) (first-physical _ _ (x .pre .0) (q .1)) t,
+      ordinal-small _ _ _ _ _ _ _ (first .1) (q .2) (x .pre .1) (tracks .1) (x .pre .2) (c .times2 .ensures .1) (x .pre .4),
+    )
 
 pub ordinal-of-spec : {M : Type 1} → statement M
 ordinal-of-spec =

@@ -1,6 +1,7 @@
 -- `first_right` meets its contract.
 -- Assumes nothing.
 use borrow.Author.Needs.{needs}
+use Rattle.numbers.proofs.Laws.{first-joined}
 use Rattle.numbers.proofs.first_right.Statement.{statement}
 use Rattle.numbers.proofs.first_right.Tie as tie
 
@@ -17,7 +18,7 @@ in-range-requires : tie.Need-in-range-requires
 in-range-requires c κs = search needs
 
 returns : tie.Need-returns
-returns c = cc
+returns c = first-joined _ _ _ _ _ _ (c .before .before .before .all-of .ensures) (c .before .before .is-cylinder .ensures) (c .before .cylinder-in .ensures .0) (c .in-range .ensures)
 
 pub first-right-spec : {M : Type 1} → statement M
 first-right-spec =

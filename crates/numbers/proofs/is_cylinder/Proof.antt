@@ -1,6 +1,8 @@
 -- `is_cylinder` meets its contract: no digits, or digits of which the last is compared.
 -- Assumes nothing.
-use mathlib.Core.Path.{sym, _∙_}
+use Prim.Native.Nat.{ℕ}
+use mathlib.Core.Path.{sym, ap, _∙_}
+use lib.Dec.{eqb}
 use borrow.Author.Needs.{needs}
 use Rattle.fields.proofs.PerhapsLaws.{test-holds, test-fails}
 use Rattle.numbers.proofs.Laws.{no-cylinder, cylinder-by-last}
@@ -31,7 +33,7 @@ is-requires c κs = search needs
 returns-2 : tie.Need-returns-2
 returns-2 c =
     let c1 = c .before .before .before in
-    cylinder-by-last _ _ (test-holds _ _ _ (sym (c1 .before .before .decimal-in .ensures) ∙ c1 .enum-told .given .1)) (cc)
+    cylinder-by-last _ _ (test-holds _ _ _ (sym (c1 .before .before .decimal-in .ensures) ∙ c1 .enum-told .given .1)) (c .is .ensures ∙ ap (λ (n : ℕ). eqb n 48) (c .before .wide .ensures .0))
 
 pub is-cylinder-spec : {M : Type 1} → statement M
 is-cylinder-spec =

@@ -1,7 +1,7 @@
 -- `second_right` meets its contract: d2 - 1 ≤ L is d2 ≤ L + 1 (`at-most`).
 -- Assumes nothing.
 use borrow.Author.Needs.{needs}
-use Rattle.numbers.proofs.Laws.{at-most}
+use Rattle.numbers.proofs.Laws.{second-joined}
 use Rattle.numbers.proofs.second_right.Statement.{statement}
 use Rattle.numbers.proofs.second_right.Tie as tie
 
@@ -26,8 +26,7 @@ all-of-requires-2 c κs = search needs
 returns : tie.Need-returns
 returns c =
     let c1 = c .before .before .before .before in
-    let c2 = c1 .before .before .before .before in
-    cc (at-most (c1 .cylinder-in2 .result) (c2 .args .l))
+    second-joined _ _ _ _ _ _ _ _ _ (c .before .before .all-of .ensures) (c .before .is-cylinder .ensures) (c .all-of2 .ensures) (c1 .before .cylinder-in .ensures .0) (c1 .cylinder-in2 .ensures .0) (c .before .before .before .minus .ensures)
 
 pub second-right-spec : {M : Type 1} → statement M
 second-right-spec =

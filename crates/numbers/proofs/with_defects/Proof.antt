@@ -2,8 +2,7 @@
 -- Assumes nothing.
 use borrow.Author.Needs.{needs}
 use denote.Ref.{now}
-use Rattle.numbers.specs.Numbers.{defected}
-use Rattle.numbers.proofs.Laws.{defects-small}
+use Rattle.numbers.proofs.Laws.{defects-small, defects-put}
 use Rattle.numbers.proofs.with_defects.Statement.{statement}
 use Rattle.numbers.proofs.with_defects.Tie as tie
 
@@ -34,8 +33,7 @@ defect-in-requires-2 c κs =
     (search needs, defects-small (c1 .args .g .L) (now (c1 .args .e)) (c1 .pre .1) .1)
 
 returns : tie.Need-returns
-unfolding defected
-returns c = cc
+returns c = defects-put _ _ _ _ (c .before .before .defect-in .ensures) (c .defect-in2 .ensures)
 
 pub with-defects-spec : {M : Type 1} → statement M
 with-defects-spec =

@@ -1,10 +1,10 @@
 -- `pack_answer` meets its contract, case by case; what has room is known of the case.
 -- Assumes nothing.
-use mathlib.Core.Path.{ap, subst}
-use native.Mathlib.Omega.{arith}
+use mathlib.Core.Path.{sym, ap, subst, _∙_}
 use borrow.Author.Needs.{needs}
 use Rattle.standard.specs.Packed.{packedAnswer}
 use Rattle.packing.specs.Room.{AnswerFits}
+use Rattle.packing.proofs.Laws.{length-fits, record-fits, record-packed, gap-packed, end-packed}
 use Rattle.packing.proofs.pack_answer.Statement.{statement}
 use Rattle.packing.proofs.pack_answer.Tie as tie
 
@@ -18,13 +18,15 @@ enum-known-a-2 : tie.Need-enum-known-a-2
 enum-known-a-2 c = search needs
 
 mul-result : tie.Need-mul-result
-mul-result c = omega (arith, subst AnswerFits (c .before .a2 .given .1) (c .before .before .before .pre))
+mul-result c = length-fits _ (subst AnswerFits (c .before .a2 .given .1) (c .before .before .before .pre) .0)
 
 pack-place-requires : tie.Need-pack-place-requires
 pack-place-requires c κs = subst AnswerFits (c .before .a2 .given .1) (c .before .before .before .pre) .1
 
 add-result : tie.Need-add-result
-add-result c = omega (arith, subst AnswerFits (c .before .before .a2 .given .1) (c .before .before .before .before .pre))
+add-result c =
+    let room = subst AnswerFits (c .before .before .a2 .given .1) (c .before .before .before .before .pre) in
+    record-fits _ _ (room .0) (c .pack-place .ensures .1)
 
 enum-known-a-3 : tie.Need-enum-known-a-3
 enum-known-a-3 c = search needs
@@ -46,19 +48,16 @@ add-result-3 c = search needs
 
 returns : tie.Need-returns
 unfolding packedAnswer
-returns c = cc (ap packedAnswer (c .before .before .a .given .1))
+returns c = c .pack-refusal .ensures ∙ sym (ap packedAnswer (c .before .before .a .given .1))
 
 returns-2 : tie.Need-returns-2
-unfolding packedAnswer
-returns-2 c = cc (ap packedAnswer (c .before .before .a2 .given .1))
+returns-2 c = record-packed _ _ _ (c .pack-place .ensures .0) _ (c .before .before .a2 .given .1)
 
 returns-3 : tie.Need-returns-3
-unfolding packedAnswer
-returns-3 c = cc (ap packedAnswer (c .before .before .a3 .given .1))
+returns-3 c = gap-packed _ _ _ (c .pack-place2 .ensures .0) (c .before .before .a3 .given .1)
 
 returns-4 : tie.Need-returns-4
-unfolding packedAnswer
-returns-4 c = cc (ap packedAnswer (c .before .before .a4 .given .1))
+returns-4 c = end-packed _ _ _ (c .pack-place3 .ensures .0) (c .before .before .a4 .given .1)
 
 pub pack-answer-spec : {M : Type 1} → statement M
 pack-answer-spec =

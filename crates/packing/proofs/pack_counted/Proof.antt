@@ -1,6 +1,6 @@
 -- `pack_counted` meets its contract, case by case.
 -- Assumes nothing.
-use mathlib.Core.Path.{ap}
+use mathlib.Core.Path.{sym, ap, _∙_}
 use borrow.Author.Needs.{needs}
 use Rattle.standard.specs.Packed.{packedCounted}
 use Rattle.packing.proofs.pack_counted.Statement.{statement}
@@ -17,11 +17,11 @@ enum-known-c-2 c = search needs
 
 returns : tie.Need-returns
 unfolding packedCounted
-returns c = cc (ap packedCounted (c .before .before .c .given .1))
+returns c = c .pack-refusal .ensures ∙ sym (ap packedCounted (c .before .before .c .given .1))
 
 returns-2 : tie.Need-returns-2
 unfolding packedCounted
-returns-2 c = cc (ap packedCounted (c .before .c2 .given .1))
+returns-2 c = sym (ap packedCounted (c .before .c2 .given .1))
 
 pub pack-counted-spec : {M : Type 1} → statement M
 pack-counted-spec =

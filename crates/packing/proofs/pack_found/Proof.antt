@@ -1,10 +1,10 @@
 -- `pack_found` meets its contract, case by case; what has room is known of the case.
 -- Assumes nothing.
-use mathlib.Core.Path.{ap, subst}
-use native.Mathlib.Omega.{arith}
+use mathlib.Core.Path.{sym, ap, subst, _∙_}
 use borrow.Author.Needs.{needs}
 use Rattle.standard.specs.Packed.{packedFound}
 use Rattle.packing.specs.Room.{FoundFits}
+use Rattle.packing.proofs.Laws.{slot-fits, found-fits}
 use Rattle.packing.proofs.pack_found.Statement.{statement}
 use Rattle.packing.proofs.pack_found.Tie as tie
 
@@ -18,18 +18,20 @@ enum-known-f-2 : tie.Need-enum-known-f-2
 enum-known-f-2 c = search needs
 
 mul-result : tie.Need-mul-result
-mul-result c = omega (arith, subst FoundFits (c .before .f2 .given .1) (c .before .before .before .pre))
+mul-result c = slot-fits _ (subst FoundFits (c .before .f2 .given .1) (c .before .before .before .pre) .0)
 
 add-result : tie.Need-add-result
-add-result c = omega (arith, subst FoundFits (c .before .f2 .given .1) (c .before .before .before .pre))
+add-result c =
+    let room = subst FoundFits (c .before .f2 .given .1) (c .before .before .before .pre) in
+    found-fits _ _ (room .0) (room .1)
 
 returns : tie.Need-returns
 unfolding packedFound
-returns c = cc (ap packedFound (c .before .before .f .given .1))
+returns c = c .pack-refusal .ensures ∙ sym (ap packedFound (c .before .before .f .given .1))
 
 returns-2 : tie.Need-returns-2
 unfolding packedFound
-returns-2 c = cc (ap packedFound (c .before .f2 .given .1))
+returns-2 c = sym (ap packedFound (c .before .f2 .given .1))
 
 pub pack-found-spec : {M : Type 1} → statement M
 pack-found-spec =

@@ -1,8 +1,9 @@
 -- `pack_judged` meets its contract, case by case.
 -- Assumes nothing.
-use mathlib.Core.Path.{ap}
+use mathlib.Core.Path.{sym, ap, _∙_}
 use borrow.Author.Needs.{needs}
 use Rattle.standard.specs.Packed.{packedJudged}
+use Rattle.packing.proofs.Laws.{volume-packed}
 use Rattle.packing.proofs.pack_judged.Statement.{statement}
 use Rattle.packing.proofs.pack_judged.Tie as tie
 
@@ -74,11 +75,10 @@ add-result-6 c = search needs
 
 returns : tie.Need-returns
 unfolding packedJudged
-returns c = cc (ap packedJudged (c .before .before .j .given .1))
+returns c = c .pack-refusal .ensures ∙ sym (ap packedJudged (c .before .before .j .given .1))
 
 returns-2 : tie.Need-returns-2
-unfolding packedJudged
-returns-2 c = cc (ap packedJudged (c .before .before .before .before .before .before .before .before .j2 .given .1))
+returns-2 c = volume-packed _ _ _ _ _ _ _ _ _ (c .before .before .before .before .before .before .before .before .j2 .given .1) (c .before .before .before .before .before .before .wide .ensures .0) (c .before .before .before .before .before .wide2 .ensures .0) (c .before .before .before .before .wide3 .ensures .0) (c .before .before .before .wide4 .ensures .0) (c .before .before .wide5 .ensures .0) (c .before .wide6 .ensures .0) (c .wide7 .ensures .0)
 
 pub pack-judged-spec : {M : Type 1} → statement M
 pack-judged-spec =

@@ -1,7 +1,7 @@
 -- `pack_refusal` meets its contract: the four parts stand in bits of their own, so that no sum wraps.
 -- Assumes nothing.
 use borrow.Author.Needs.{needs}
-use Rattle.standard.specs.Packed.{packedRefusal}
+use Rattle.packing.proofs.Laws.{refusal-packed}
 use Rattle.packing.proofs.pack_refusal.Statement.{statement}
 use Rattle.packing.proofs.pack_refusal.Tie as tie
 
@@ -36,8 +36,7 @@ add-result-3 : tie.Need-add-result-3
 add-result-3 c = search needs
 
 returns : tie.Need-returns
-unfolding packedRefusal
-returns c = cc
+returns c = refusal-packed _ _ _ _ _ (c .before .before .before .wide .ensures .0) (c .before .before .most .ensures .0) (c .before .most2 .ensures .0) (c .most3 .ensures .0)
 
 pub pack-refusal-spec : {M : Type 1} → statement M
 pack-refusal-spec =

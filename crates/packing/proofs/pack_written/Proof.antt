@@ -1,6 +1,6 @@
 -- `pack_written` meets its contract, case by case.
 -- Assumes nothing.
-use mathlib.Core.Path.{ap}
+use mathlib.Core.Path.{sym, ap, _∙_}
 use borrow.Author.Needs.{needs}
 use Rattle.standard.specs.Packed.{packedWritten}
 use Rattle.packing.proofs.pack_written.Statement.{statement}
@@ -17,11 +17,11 @@ enum-known-w-2 c = search needs
 
 returns : tie.Need-returns
 unfolding packedWritten
-returns c = cc (ap packedWritten (c .before .before .w .given .1))
+returns c = c .pack-refusal .ensures ∙ sym (ap packedWritten (c .before .before .w .given .1))
 
 returns-2 : tie.Need-returns-2
 unfolding packedWritten
-returns-2 c = cc (ap packedWritten (c .before .w2 .given .1))
+returns-2 c = sym (ap packedWritten (c .before .w2 .given .1))
 
 pub pack-written-spec : {M : Type 1} → statement M
 pack-written-spec =

@@ -8,6 +8,7 @@ use native.Mathlib.Omega.{arith}
 use denote.Ref.{now}
 use Rattle.labels.specs.Forms.{formatFor}
 use Rattle.sizing.specs.Lists.{wrongFrom}
+use Rattle.standard.specs.Writing.{wrongIn}
 use Rattle.sizing.proofs.LevelLaws.{wrong-next, wrong-stop, wrong-none}
 use borrow.Author.Needs.{needs}
 use Rattle.sizing.proofs.first_wrong.Statement.{statement}
@@ -41,7 +42,8 @@ returns : tie.Need-returns Inv-loop μ-loop
 returns c =
     let x = c .before .before .before .before .before .before .before .before .args in
     let w = c .before .before .before .before .before .before .loop in
-    sym (w .inv .1 ∙ wrong-stop (formatFor (x .form)) (x .B) (x .R) (now (x .lengths)) (w .i) (omega arith) (cc) ∙ ap Stopped (sym (c .at .ensures)))
+    let wrong = c .before .before .is-wrong .ensures ∙ ap (wrongIn (formatFor (x .form)) (x .B) (x .R)) (c .before .before .before .wide .ensures .0) in
+    sym (w .inv .1 ∙ wrong-stop (formatFor (x .form)) (x .B) (x .R) (now (x .lengths)) (w .i) (omega arith) (sym wrong ∙ c .before .if1 .taken) ∙ ap Stopped (sym (c .at .ensures)))
 
 add-i : tie.Need-add-i Inv-loop μ-loop
 add-i c = search needs
@@ -53,7 +55,8 @@ loop-again : tie.Need-loop-again Inv-loop μ-loop
 loop-again c =
     let x = c .before .before .before .before .before .before .before .args in
     let w = c .before .before .before .before .before .loop in
-    (omega arith, w .inv .1 ∙ wrong-next (formatFor (x .form)) (x .B) (x .R) (now (x .lengths)) (w .i) (omega arith) (cc))
+    let wrong = c .before .is-wrong .ensures ∙ ap (wrongIn (formatFor (x .form)) (x .B) (x .R)) (c .before .before .wide .ensures .0) in
+    (omega arith, w .inv .1 ∙ wrong-next (formatFor (x .form)) (x .B) (x .R) (now (x .lengths)) (w .i) (omega arith) (sym wrong ∙ c .if1 .left))
 
 returns-2 : tie.Need-returns-2 Inv-loop μ-loop
 returns-2 c =
