@@ -86,8 +86,8 @@ fn judge_vol1(image: &[u8]) -> Judged
     if 0 < fault {
         return Judged::Refused(Refusal::at(3, fault));
     }
-    let owner = wide(v[10]);
-    if owner != 32 {
+    let access = wide(v[10]);
+    if access != 32 {
         return Judged::Refused(Refusal::at(4, 11));
     }
     judge_sectors(vol1_numbers(v), image)

@@ -50,10 +50,13 @@ wide-requires-5 c κs = search needs
 
 returns : tie.Need-returns
 returns c =
-    let x = c .before .before .before .before .before .before .before .before .before .before .before .args in (
-      five-drop (now (x .image)) (x .o) _ _ _ _ _ (c .before .before .before .before .before .before .before .before .wide .ensures .0) (c .before .before .before .before .before .before .wide2 .ensures .0) (c .before .before .before .before .wide3 .ensures .0) (c .before .before .wide4 .ensures .0) (c .wide5 .ensures .0),
-      c .before .before .before .before .before .before .before .before .wide .ensures .1,
-      c .before .before .before .before .before .before .wide2 .ensures .1,
+    let c6 = c .before .before .before .before .before .before in
+    let c8 = c6 .before .before in
+    let c11 = c8 .before .before .before in
+    let x = c11 .args in (
+      five-drop (now (x .image)) (x .o) _ _ _ _ _ (c8 .wide .ensures .0) (c6 .wide2 .ensures .0) (c .before .before .before .before .wide3 .ensures .0) (c .before .before .wide4 .ensures .0) (c .wide5 .ensures .0),
+      c8 .wide .ensures .1,
+      c6 .wide2 .ensures .1,
       c .before .before .before .before .wide3 .ensures .1,
       c .before .before .wide4 .ensures .1,
       c .wide5 .ensures .1,

@@ -65,9 +65,12 @@ tally-requires c κs =
 
 returns-3 : tie.Need-returns-3
 returns-3 c =
-    let x = c .before .before .before .before .before .before .before .before .args in
-    let j = c .before .before .before .before .before .before .before .before .pre in
-    let l = sym (c .before .before .before .before .before .before .has-label .ensures) ∙ not-false (c .before .before .before .before .before .before .has-label .result) (c .before .before .before .before .before .if1 .left) in
+    let c5 = c .before .before .before .before .before in
+    let c6 = c5 .before in
+    let c8 = c6 .before .before in
+    let x = c8 .args in
+    let j = c8 .pre in
+    let l = sym (c6 .has-label .ensures) ∙ not-false (c6 .has-label .result) (c5 .if1 .left) in
     let e = c .before .before .before .before .label-at .ensures .0 in
     let k = ap knownLevel (sym e) ∙ sym (c .before .before .before .known-level .ensures) ∙ not-false (c .before .before .before .known-level .result) (c .before .before .if2 .left) in
     let n = c .before .numbers-of .ensures ∙ ap (numbersOf (x .g)) e in

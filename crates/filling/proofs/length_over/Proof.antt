@@ -33,8 +33,13 @@ same-length c = search needs
 
 returns : tie.Need-returns
 returns c =
-    let x = c .before .before .before .before .before .before .before .before .before .before .args in
-    let e = word-V (x .size) (c .before .before .before .before .before .before .before .before .digit-at .result) (c .before .before .before .before .before .before .before .digit-at2 .result) (c .before .before .before .before .before .before .digit-at3 .result) (c .before .before .before .before .before .digit-at4 .result) (c .before .before .before .before .before .before .before .before .digit-at .ensures) (c .before .before .before .before .before .before .before .digit-at2 .ensures) (c .before .before .before .before .before .before .digit-at3 .ensures) (c .before .before .before .before .before .digit-at4 .ensures) in
+    let c5 = c .before .before .before .before .before in
+    let c6 = c5 .before in
+    let c7 = c6 .before in
+    let c8 = c7 .before in
+    let c10 = c8 .before .before in
+    let x = c10 .args in
+    let e = word-V (x .size) (c8 .digit-at .result) (c7 .digit-at2 .result) (c6 .digit-at3 .result) (c5 .digit-at4 .result) (c8 .digit-at .ensures) (c7 .digit-at2 .ensures) (c6 .digit-at3 .ensures) (c5 .digit-at4 .ensures) in
     subst (λ (t : List ℕ). Lays (x .g) (now (x .image)) (x .p) t (c .before .before .put .last .1 .0) (c .before .before .put .result)) e (c .before .before .put .ensures)
 
 pub length-over-spec : {M : Type 1} → statement M

@@ -53,7 +53,8 @@ turn-requires c κs = let k = c .before .before .before .put-in .ensures in (k .
 
 same-length : tie.Need-same-length Inv-loop μ-loop
 same-length c =
-    let q = c .before .before .before .before .before .before .before .before .before .before .before .before .before .before .before .before .before .before .pre in
+    let c18 = c .before .before .before .before .before .before .before .before .before .before .before .before .before .before .before .before .before .before in
+    let q = c18 .pre in
     let t = c .before .before .before .before .turn .ensures in
     t .placed .0 .0 ∙ sym (q .0 .0 .0)
 
@@ -127,8 +128,10 @@ same-length-2 c = search needs
 
 returns-2 : tie.Need-returns-2 Inv-loop μ-loop
 returns-2 c =
-    let x = c .before .before .before .before .before .before .before .before .before .before .args in
-    let w = c .before .before .before .before .before .before .loop in
+    let c6 = c .before .before .before .before .before .before in
+    let c10 = c6 .before .before .before .before in
+    let x = c10 .args in
+    let w = c6 .loop in
     rest-last (x .g) (now (x .image)) (w .image) (c .before .before .put-in2 .last .1 .0) (x .start) (w .p) (c .before .before .put-in2 .result) (packed (now (x .bytes)) (x .first) (x .count) (x .behind)) (packed (now (x .bytes)) (w .from) (w .n) (w .zeros)) (w .inv .6) (c .before .before .put-in2 .ensures .0)
 
 pub put-spec : {M : Type 1} → statement M

@@ -27,8 +27,10 @@ same-length c = search needs
 
 returns : tie.Need-returns
 returns c =
-    let x = c .before .before .before .before .before .before .before .before .args in
-    let place = c .before .before .before .before .before .place-of .ensures in
+    let c5 = c .before .before .before .before .before in
+    let c8 = c5 .before .before .before in
+    let x = c8 .args in
+    let place = c5 .place-of .ensures in
     let said = c .before .before .before .salvage .ensures in (
       c .pack-answer .ensures ∙ ap packedAnswer (said .0 ∙ ap (λ (pl : Place). readAnswer salvage (now (x .image)) (x .slot) pl (now (x .out))) place),
       said .1 ∙ ap (λ (pl : Place). outputAfter salvage (now (x .image)) (x .slot) pl (now (x .out))) place,

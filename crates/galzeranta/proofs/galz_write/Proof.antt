@@ -6,19 +6,15 @@ use borrow.Author.Needs.{needs}
 use Rattle.galzeranta.proofs.galz_write.Statement.{statement}
 use Rattle.galzeranta.proofs.galz_write.Tie as tie
 
--- src/lib.rt:94:27
 write-requires : tie.Need-write-requires
 write-requires c κs = search needs
 
--- src/lib.rt:94:5
 pack-written-requires : tie.Need-pack-written-requires
 pack-written-requires c κs = search needs
 
--- src/lib.rt:90:1
 same-length : tie.Need-same-length
 same-length c = search needs
 
--- src/lib.rt:90:1
 returns : tie.Need-returns
 returns c =
     let said = c .before .before .before .write .ensures in

@@ -119,12 +119,18 @@ add-result-7 c = search needs
 
 returns : tie.Need-returns
 returns c =
-    eight-is (now (c .before .before .before .before .before .before .before .before .before .before .before .before .before .before .before .before .before .args .s)) (c .before .before .before .before .before .before .before .before .before .before .before .before .before .before .before .before .before .args .at) _ _ _ _ _ _ _ _
-    (c .before .before .before .before .before .before .before .before .before .before .before .before .before .before .wide .ensures .0)
-    (c .before .before .before .before .before .before .before .before .before .before .before .before .wide2 .ensures .0)
-    (c .before .before .before .before .before .before .before .before .before .before .wide3 .ensures .0)
-    (c .before .before .before .before .before .before .before .before .wide4 .ensures .0)
-    (c .before .before .before .before .before .before .wide5 .ensures .0)
+    let c6 = c .before .before .before .before .before .before in
+    let c8 = c6 .before .before in
+    let c10 = c8 .before .before in
+    let c12 = c10 .before .before in
+    let c14 = c12 .before .before in
+    let c17 = c14 .before .before .before in
+    eight-is (now (c17 .args .s)) (c17 .args .at) _ _ _ _ _ _ _ _
+    (c14 .wide .ensures .0)
+    (c12 .wide2 .ensures .0)
+    (c10 .wide3 .ensures .0)
+    (c8 .wide4 .ensures .0)
+    (c6 .wide5 .ensures .0)
     (c .before .before .before .before .wide6 .ensures .0)
     (c .before .before .wide7 .ensures .0)
     (c .wide8 .ensures .0)

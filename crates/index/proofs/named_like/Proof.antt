@@ -35,7 +35,10 @@ name-is-requires : tie.Need-name-is-requires
 name-is-requires c κs = search needs
 
 returns-3 : tie.Need-returns-3
-returns-3 c = both-known _ _ _ _ _ _ _ (c .before .before .before .before .before .before .before .before .pre .5) (sym (c .before .before .before .before .before .is-known .ensures) ∙ not-false (c .before .before .before .before .before .is-known .result) (c .before .before .before .before .if2 .left)) (c .name-is .ensures) (c .before .before .label-at2 .ensures .0) (c .before .before .before .label-at .ensures .0)
+returns-3 c =
+    let c5 = c .before .before .before .before .before in
+    let c8 = c5 .before .before .before in
+    both-known _ _ _ _ _ _ _ (c8 .pre .5) (sym (c5 .is-known .ensures) ∙ not-false (c5 .is-known .result) (c .before .before .before .before .if2 .left)) (c .name-is .ensures) (c .before .before .label-at2 .ensures .0) (c .before .before .before .label-at .ensures .0)
 
 pub named-like-spec : {M : Type 1} → statement M
 named-like-spec =

@@ -22,27 +22,22 @@ Inv-loop g image₀ B size bodies end p₀ from₀ image p from =
 abbrev μ-loop : tie.MeasureT-loop
 μ-loop g image₀ B size bodies end p₀ from₀ image p from = length bodies - from
 
--- src/lib.rt:245:5
 loop-holds : tie.Need-loop-holds Inv-loop μ-loop
 loop-holds c =
     let x = c .before .before in
     ((λ tail. refl), x .pre .0, refl, omega arith)
 
--- src/lib.rt:246:26
 sub-least : tie.Need-sub-least Inv-loop μ-loop
 sub-least c = search needs
 
--- src/lib.rt:246:13
 least-requires : tie.Need-least-requires Inv-loop μ-loop
 least-requires c κs = search needs
 
--- src/lib.rt:247:47
 sub-put : tie.Need-sub-put Inv-loop μ-loop
 sub-put c =
     let x = c .before .before .before .before .before .before in
     omega (arith, c .before .least .ensures .0, x .pre .2)
 
--- src/lib.rt:247:9
 put-requires : tie.Need-put-requires Inv-loop μ-loop
 put-requires c κs =
     let x = c .before .before .before .before .before .before in
@@ -50,13 +45,11 @@ put-requires c κs =
     let l = c .before .least in
     (w .inv .1, omega (arith, l .ensures .1, c .before .before .loop-test .taken), omega (arith, l .ensures .0, x .pre .2, x .pre .3), omega (arith, x .pre .3))
 
--- src/lib.rt:248:9
 add-from : tie.Need-add-from Inv-loop μ-loop
 add-from c =
     let l = c .before .before .before .before .least in
     omega (arith, l .ensures .1, c .before .before .before .before .before .loop-test .taken, c .before .before .before .before .before .before .before .before .before .good .1 .1 .1 .1 .1 .0)
 
--- src/lib.rt:245:5
 loop-less : tie.Need-loop-less Inv-loop μ-loop
 loop-less c =
     let l = c .before .before .before .before .least in
@@ -67,7 +60,6 @@ loop-less c =
     let s = least-some-of (a .B) (length (now (a .bodies)) - w .from) (l .result) (x .pre .1) (l .ensures .2) (omega (arith, t)) in
     omega (arith, l .ensures .1, s, t)
 
--- src/lib.rt:245:5
 loop-again : tie.Need-loop-again Inv-loop μ-loop
 loop-again c =
     let w = c .before .before .before .before .before .before .loop in
@@ -82,11 +74,9 @@ loop-again c =
       omega (arith, l .ensures .1, c .before .before .before .before .before .loop-test .taken),
     )
 
--- src/lib.rt:238:1
 same-length : tie.Need-same-length Inv-loop μ-loop
 same-length c = search needs
 
--- src/lib.rt:238:1
 returns : tie.Need-returns Inv-loop μ-loop
 returns c =
     let w = c .before .loop in

@@ -10,22 +10,18 @@ use borrow.Author.Needs.{needs}
 use Rattle.laying.proofs.lay_list.Statement.{statement}
 use Rattle.laying.proofs.lay_list.Tie as tie
 
--- src/lib.rt:269:38
 enum-told : tie.Need-enum-told
 enum-told c = search needs
 
--- src/lib.rt:269:24
 lay-blocks-requires : tie.Need-lay-blocks-requires
 lay-blocks-requires c κs =
     let x = c .before .before .before .before .before .before in
     let a = x .args in
     (x .pre .0, tiled-some (a .B) (now (a .lengths)) (x .pre .4 (c .before .enum-told .given .1)), x .pre .1, x .pre .2)
 
--- src/lib.rt:272:13
 enum-told-2 : tie.Need-enum-told-2
 enum-told-2 c = search needs
 
--- src/lib.rt:270:27
 lay-records-requires : tie.Need-lay-records-requires
 lay-records-requires c κs =
     let x = c .before .before .before .before .before .before in
@@ -33,11 +29,9 @@ lay-records-requires c κs =
     let e = c .before .enum-told2 .given .1 in
     ((x .pre .1, x .pre .2), x .pre .0, (subst (λ (f : Form). EachFits (formatFor f) (a .B) (now (a .lengths))) e (x .pre .3)), x .pre .5)
 
--- src/lib.rt:285:13
 enum-told-3 : tie.Need-enum-told-3
 enum-told-3 c = search needs
 
--- src/lib.rt:283:26
 lay-records-requires-2 : tie.Need-lay-records-requires-2
 lay-records-requires-2 c κs =
     let x = c .before .before .before .before .before .before in
@@ -45,42 +39,39 @@ lay-records-requires-2 c κs =
     let e = c .before .enum-told3 .given .1 in
     ((x .pre .1, x .pre .2), x .pre .0, (subst (λ (f : Form). EachFits (formatFor f) (a .B) (now (a .lengths))) e (x .pre .3)), x .pre .5)
 
--- src/lib.rt:254:1
 same-length : tie.Need-same-length
 same-length c = search needs
 
--- src/lib.rt:254:1
 returns : tie.Need-returns
 returns c =
-    let x = c .before .before .before .before .before .before .before .before .before in
+    let c9 = c .before .before .before .before .before .before .before .before .before in
+    let x = c9 in
     let a = x .args in
     let t = c .before .before .lay-blocks in
     let e = c .before .before .before .before .enum-told .given .1 in
     listed-as (a .g) (now (a .image)) (t .last .1 .0) (a .p) (t .result) (a .blocked) (a .B) (a .size) (now (a .bodies)) (now (a .lengths)) (x .pre .5) (a .form) _ e
     (listed-F (a .g) (now (a .image)) (t .last .1 .0) (a .p) (t .result) (a .blocked) (a .B) (a .size) (now (a .bodies)) (now (a .lengths)) (x .pre .5) (x .pre .4 e) (t .ensures))
 
--- src/lib.rt:254:1
 same-length-2 : tie.Need-same-length-2
 same-length-2 c = search needs
 
--- src/lib.rt:254:1
 returns-2 : tie.Need-returns-2
 returns-2 c =
-    let x = c .before .before .before .before .before .before .before .before .before in
+    let c9 = c .before .before .before .before .before .before .before .before .before in
+    let x = c9 in
     let a = x .args in
     let t = c .before .before .lay-records in
     let e = c .before .before .before .before .enum-told2 .given .1 in
     listed-as (a .g) (now (a .image)) (t .last .1 .0) (a .p) (t .result) (a .blocked) (a .B) (a .size) (now (a .bodies)) (now (a .lengths)) (x .pre .5) (a .form) _ e
     (listed-V (a .g) (now (a .image)) (t .last .1 .0) (a .p) (t .result) (a .blocked) (a .B) (a .size) (now (a .bodies)) (now (a .lengths)) (x .pre .5) (x .pre .1) (subst (λ (f : Form). EachFits (formatFor f) (a .B) (now (a .lengths))) e (x .pre .3)) (t .ensures))
 
--- src/lib.rt:254:1
 same-length-3 : tie.Need-same-length-3
 same-length-3 c = search needs
 
--- src/lib.rt:254:1
 returns-3 : tie.Need-returns-3
 returns-3 c =
-    let x = c .before .before .before .before .before .before .before .before .before in
+    let c9 = c .before .before .before .before .before .before .before .before .before in
+    let x = c9 in
     let a = x .args in
     let t = c .before .before .lay-records2 in
     let e = c .before .before .before .before .enum-told3 .given .1 in

@@ -10,7 +10,6 @@ use borrow.Author.Needs.{needs}
 use Rattle.laying.proofs.lay_record.Statement.{statement}
 use Rattle.laying.proofs.lay_record.Tie as tie
 
--- src/lib.rt:203:9
 lay-spanned-requires : tie.Need-lay-spanned-requires
 lay-spanned-requires c κs =
     let x = c .before .before .before .before in
@@ -18,18 +17,15 @@ lay-spanned-requires c κs =
     let w : fitsAs true (a .s .B) (a .n) = subst (λ (k : Bool). fitsAs k (a .s .B) (a .n)) (c .before .if1 .taken) (x .pre .2) in
     (x .pre .0, x .pre .1, w, x .pre .3, x .pre .4)
 
--- src/lib.rt:203:9
 same-length : tie.Need-same-length
 same-length c = search needs
 
--- src/lib.rt:203:9
 returns : tie.Need-returns
 returns c =
     let a = c .before .before .before .before .before .before .before .args in
     let r = c .before .before .lay-spanned in
     of-shape (a .g) (a .s) (now (a .image)) (r .last .1 .0) (a .d) (r .result) (take (a .n) (drop (a .from) (now (a .bodies)))) true (c .before .before .before .before .if1 .taken) (r .ensures)
 
--- src/lib.rt:205:5
 lay-variable-requires : tie.Need-lay-variable-requires
 lay-variable-requires c κs =
     let x = c .before .before .before .before in
@@ -37,11 +33,9 @@ lay-variable-requires c κs =
     let w : fitsAs false (a .s .B) (a .n) = subst (λ (k : Bool). fitsAs k (a .s .B) (a .n)) (c .before .if1 .left) (x .pre .2) in
     (x .pre .0, x .pre .1, w, x .pre .3)
 
--- src/lib.rt:190:1
 same-length-2 : tie.Need-same-length-2
 same-length-2 c = search needs
 
--- src/lib.rt:190:1
 returns-2 : tie.Need-returns-2
 returns-2 c =
     let a = c .before .before .before .before .before .before .before .args in

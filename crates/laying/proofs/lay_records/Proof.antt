@@ -26,27 +26,22 @@ Inv-loop g image₀ s bodies lengths d₀ i₀ from₀ t12 image d i from =
 abbrev μ-loop : tie.MeasureT-loop
 μ-loop g image₀ s bodies lengths d₀ i₀ from₀ t12 image d i from = length lengths - i
 
--- src/lib.rt:448:5
 loop-holds : tie.Need-loop-holds Inv-loop μ-loop
 loop-holds c =
     let x = c .before .before .before in
     ((λ tail. refl), (x .pre .1, omega arith, omega arith, omega arith), refl, omega arith, omega (arith, x .pre .3), x .pre .2)
 
--- src/lib.rt:449:17
 mul-n : tie.Need-mul-n Inv-loop μ-loop
 mul-n c = search needs
 
--- src/lib.rt:449:17
 shared-slice-read-n : tie.Need-shared-slice-read-n Inv-loop μ-loop
 shared-slice-read-n c = search needs
 
--- src/lib.rt:449:17
 cast-n : tie.Need-cast-n Inv-loop μ-loop
 cast-n c =
     let w = c .before .before .loop in
     omega (arith, c .shared-slice-known3 .given (w .i))
 
--- src/lib.rt:450:9
 lay-record-requires : tie.Need-lay-record-requires Inv-loop μ-loop
 lay-record-requires c κs =
     let w = c .before .before .before .loop in
@@ -56,7 +51,6 @@ lay-record-requires c κs =
     let f = record-fits (a .g) (a .s) (now (a .bodies)) (now (a .lengths)) (w .i) (w .from) t (w .inv .4) (w .inv .5) in
     (x .pre .0, w .inv .1, f .0, f .1, omega (arith, c .before .shared-slice-known3 .given (w .i)))
 
--- src/lib.rt:451:9
 add-from : tie.Need-add-from Inv-loop μ-loop
 add-from c =
     let w = c .before .before .before .before .before .before .loop in
@@ -66,18 +60,15 @@ add-from c =
     let f = record-fits (a .g) (a .s) (now (a .bodies)) (now (a .lengths)) (w .i) (w .from) t (w .inv .4) (w .inv .5) in
     omega (arith, f .1)
 
--- src/lib.rt:452:9
 add-i : tie.Need-add-i Inv-loop μ-loop
 add-i c =
     omega (arith, c .before .before .before .before .before .loop-test .taken, c .before .before .before .before .before .before .before .before .before .before .good .1 .1 .1 .1 .1 .0)
 
--- src/lib.rt:448:5
 loop-less : tie.Need-loop-less Inv-loop μ-loop
 loop-less c =
     let w = c .before .before .before .before .before .before .loop in
     omega (arith, c .before .before .before .before .before .loop-test .taken)
 
--- src/lib.rt:448:5
 loop-again : tie.Need-loop-again Inv-loop μ-loop
 loop-again c =
     let w = c .before .before .before .before .before .before .loop in
@@ -95,29 +86,28 @@ loop-again c =
       f .3,
     )
 
--- src/lib.rt:455:22
 slice-aggregate-put : tie.Need-slice-aggregate-put Inv-loop μ-loop
 slice-aggregate-put c = search needs
 
--- src/lib.rt:455:5
 put-requires : tie.Need-put-requires Inv-loop μ-loop
 put-requires c κs =
     let w = c .before .before .before .before .loop in
     let x = c .before .before .before .before .before .before .before .before in
     (w .inv .1 .0, omega arith, omega arith, omega (arith, w .inv .1 .2, x .pre .0 .1))
 
--- src/lib.rt:430:1
 same-length : tie.Need-same-length Inv-loop μ-loop
 same-length c = search needs
 
--- src/lib.rt:430:1
 returns : tie.Need-returns Inv-loop μ-loop
 returns c =
-    let w = c .before .before .before .before .before .before .before .loop in
-    let x = c .before .before .before .before .before .before .before .before .before .before .before in
+    let c6 = c .before .before .before .before .before .before in
+    let c7 = c6 .before in
+    let c11 = c7 .before .before .before .before in
+    let w = c7 .loop in
+    let x = c11 in
     let a = x .args in
     let t = c .before .before .put in
-    let on = records-end (a .g) (a .s) (now (a .bodies)) (now (a .lengths)) (w .image) (t .last .1 .0) (w .d) (w .i) (w .from) (t .result) (c .before .before .before .before .before .before .loop-test .left) (t .ensures) in
+    let on = records-end (a .g) (a .s) (now (a .bodies)) (now (a .lengths)) (w .image) (t .last .1 .0) (w .d) (w .i) (w .from) (t .result) (c6 .loop-test .left) (t .ensures) in
     ((λ tail. w .inv .0 tail ∙ on tail), t .ensures .1)
 
 pub lay-records-spec : {M : Type 1} → statement M

@@ -8,33 +8,30 @@ use borrow.Author.Needs.{needs}
 use Rattle.laying.proofs.lay_segment.Statement.{statement}
 use Rattle.laying.proofs.lay_segment.Tie as tie
 
--- src/lib.rt:339:38
 role-of-requires : tie.Need-role-of-requires
 role-of-requires c κs = search needs
 
--- src/lib.rt:339:60
 add-put-segment : tie.Need-add-put-segment
 add-put-segment c = search needs
 
--- src/lib.rt:339:9
 put-segment-requires : tie.Need-put-segment-requires
 put-segment-requires c κs = search needs
 
--- src/lib.rt:340:5
 put-requires : tie.Need-put-requires
 put-requires c κs = search needs
 
--- src/lib.rt:325:1
 same-length : tie.Need-same-length
 same-length c = search needs
 
--- src/lib.rt:325:1
 returns : tie.Need-returns
 returns c =
-    let x = c .before .before .before .before .before .before .before .before .before .before .before in
+    let c6 = c .before .before .before .before .before .before in
+    let c7 = c6 .before in
+    let c11 = c7 .before .before .before .before in
+    let x = c11 in
     let a = x .args in
-    let r = c .before .before .before .before .before .before .before .role-of in
-    let w = c .before .before .before .before .before .before .put-segment in
+    let r = c7 .role-of in
+    let w = c6 .put-segment in
     let t = c .before .before .put in
     let y = take (a .n) (drop (a .from) (now (a .bodies))) in
     segment-laid (a .g) (now (a .image)) (w .last .1 .0) (t .last .1 .0) (a .p) (w .result) (t .result) (segmentRole (a .begun) (a .ends)) (r .result) y (a .n) (a .zeros)

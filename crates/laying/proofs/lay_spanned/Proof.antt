@@ -9,18 +9,16 @@ use borrow.Author.Needs.{needs}
 use Rattle.laying.proofs.lay_spanned.Statement.{statement}
 use Rattle.laying.proofs.lay_spanned.Tie as tie
 
--- src/lib.rt:404:38
 least-for-requires : tie.Need-least-for-requires
 least-for-requires c κs = search needs
 
--- src/lib.rt:404:9
 room-for-requires : tie.Need-room-for-requires
 room-for-requires c κs = search needs
 
--- src/lib.rt:405:5
 spread-requires : tie.Need-spread-requires
 spread-requires c κs =
-    let x = c .before .before .before .before .before .before .before .before in
+    let c8 = c .before .before .before .before .before .before .before .before in
+    let x = c8 in
     let a = x .args in
     let q = c .before .before .before .room-for in
     let f = c .before .before .before .before .least-for in
@@ -29,17 +27,18 @@ spread-requires c κs =
     let there : leastFor (a .n) ≤ q .result .room = subst (λ (k : ℕ). k ≤ q .result .room) (f .ensures .0) (w .1) in
     (x .pre .0, w .0, there, x .pre .2, x .pre .3, x .pre .4)
 
--- src/lib.rt:392:1
 same-length : tie.Need-same-length
 same-length c = search needs
 
--- src/lib.rt:392:1
 returns : tie.Need-returns
 returns c =
-    let x = c .before .before .before .before .before .before .before .before .before .before .before in
+    let c6 = c .before .before .before .before .before .before in
+    let c7 = c6 .before in
+    let c11 = c7 .before .before .before .before in
+    let x = c11 in
     let a = x .args in
-    let q = c .before .before .before .before .before .before .room-for in
-    let f = c .before .before .before .before .before .before .before .least-for in
+    let q = c6 .room-for in
+    let f = c7 .least-for in
     let t = c .before .before .spread in
     spanned-laid (a .g) (a .s) (now (a .image)) (q .last .1 .0) (t .last .1 .0) (a .d) (q .result) (t .result) (now (a .bodies)) (a .from) (a .n) (x .pre .3) (x .pre .1) (f .result)
     (f .ensures .0) (q .ensures) (t .ensures)

@@ -12,36 +12,31 @@ use borrow.Author.Needs.{needs}
 use Rattle.laying.proofs.lay_variable.Statement.{statement}
 use Rattle.laying.proofs.lay_variable.Tie as tie
 
--- src/lib.rt:294:16
 add-size : tie.Need-add-size
 add-size c = search needs
 
--- src/lib.rt:295:9
 room-for-requires : tie.Need-room-for-requires
 room-for-requires c κs = search needs
 
--- src/lib.rt:299:9
 put-length-requires : tie.Need-put-length-requires
 put-length-requires c κs = search needs
 
--- src/lib.rt:300:9
 put-requires : tie.Need-put-requires
 put-requires c κs = search needs
 
--- src/lib.rt:303:28
 sub-kept : tie.Need-sub-kept
 sub-kept c =
-    let x = c .before .before .before .before .before .before .before .before .before .before .before .before .before .before .before in
+    let c11 = c .before .before .before .before .before .before .before .before .before .before .before in
+    let c15 = c11 .before .before .before .before in
+    let x = c15 in
     let a = x .args in
-    let q = c .before .before .before .before .before .before .before .before .before .before .before .room-for in
+    let q = c11 .room-for in
     let w = room-ready (a .g) (a .s) (now (a .image)) (q .last .1 .0) (a .d) (q .result) (4 + a .n) (x .pre .0) (x .pre .1) (x .pre .2) (q .ensures) in
     w .1
 
--- src/lib.rt:303:15
 kept-requires : tie.Need-kept-requires
 kept-requires c κs = search needs
 
--- src/lib.rt:304:15
 sub-t24 : tie.Need-sub-t24
 sub-t24 c =
     let x = c .before .before .before .before .before .before .before .before .before .before .before .before .before .before .before .before in
@@ -50,17 +45,18 @@ sub-t24 c =
     let w = room-ready (a .g) (a .s) (now (a .image)) (q .last .1 .0) (a .d) (q .result) (4 + a .n) (x .pre .0) (x .pre .1) (x .pre .2) (q .ensures) in
     omega (arith, w .1, w .0 .1)
 
--- src/lib.rt:281:1
 same-length : tie.Need-same-length
 same-length c = search needs
 
--- src/lib.rt:281:1
 returns : tie.Need-returns
 returns c =
-    let x = c .before .before .before .before .before .before .before .before .before .before .before .before .before .before .before .before in
+    let c7 = c .before .before .before .before .before .before .before in
+    let c12 = c7 .before .before .before .before .before in
+    let c16 = c12 .before .before .before .before in
+    let x = c16 in
     let a = x .args in
-    let q = c .before .before .before .before .before .before .before .before .before .before .before .before .room-for in
-    let l = c .before .before .before .before .before .before .before .put-length in
+    let q = c12 .room-for in
+    let l = c7 .put-length in
     let t = c .before .before .before .put in
     let y = take (a .n) (drop (a .from) (now (a .bodies))) in
     let ly = part-length (now (a .bodies)) (a .from) (a .n) (x .pre .3) in

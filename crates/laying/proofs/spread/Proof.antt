@@ -31,17 +31,14 @@ Inv-loop g image₀ bodies first body B size p₀ room₀ rest₀ from₀ n₀ b
 abbrev μ-loop : tie.MeasureT-loop
 μ-loop g image₀ bodies first body B size p₀ room₀ rest₀ from₀ n₀ begun₀ image p room rest from n begun = n
 
--- src/lib.rt:364:5
 loop-holds : tie.Need-loop-holds Inv-loop μ-loop
 loop-holds c =
     let x = c .before .before .before in
     ((λ more tail. refl), x .pre .1 .0, refl, x .pre .1 .1, x .pre .1 .2, x .pre .1 .3, x .pre .2, x .pre .3, x .pre .4, x .pre .5)
 
--- src/lib.rt:364:18
 add-loop : tie.Need-add-loop Inv-loop μ-loop
 add-loop c = search needs
 
--- src/lib.rt:365:17
 sub-k : tie.Need-sub-k Inv-loop μ-loop
 sub-k c =
     let w = c .before .loop in
@@ -49,11 +46,9 @@ sub-k c =
     let o = six-left (w .n) (w .room) (x .args .s .B) (omega arith) (w .inv .6) (w .inv .7) in
     omega arith
 
--- src/lib.rt:366:69
 sub-lay-segment : tie.Need-sub-lay-segment Inv-loop μ-loop
 sub-lay-segment c = search needs
 
--- src/lib.rt:366:9
 lay-segment-requires : tie.Need-lay-segment-requires Inv-loop μ-loop
 lay-segment-requires c κs =
     let w = c .before .before .loop in
@@ -61,7 +56,6 @@ lay-segment-requires c κs =
     let o = six-left (w .n) (w .room) (x .args .s .B) (omega arith) (w .inv .6) (w .inv .7) in
     (w .inv .1, omega (arith, w .inv .8), omega (arith, w .inv .9), omega (arith, x .pre .0 .1))
 
--- src/lib.rt:369:9
 add-from : tie.Need-add-from Inv-loop μ-loop
 add-from c =
     let w = c .before .before .before .before .before .loop in
@@ -69,7 +63,6 @@ add-from c =
     let o = six-left (w .n) (w .room) (x .args .s .B) (omega arith) (w .inv .6) (w .inv .7) in
     omega (arith, w .inv .8)
 
--- src/lib.rt:370:9
 sub-n : tie.Need-sub-n Inv-loop μ-loop
 sub-n c =
     let w = c .before .before .before .before .before .loop in
@@ -77,7 +70,6 @@ sub-n c =
     let o = six-left (w .n) (w .room) (x .args .s .B) (omega arith) (w .inv .6) (w .inv .7) in
     omega arith
 
--- src/lib.rt:364:5
 loop-less : tie.Need-loop-less Inv-loop μ-loop
 loop-less c =
     let w = c .before .before .before .before .before .loop in
@@ -85,7 +77,6 @@ loop-less c =
     let o = six-left (w .n) (w .room) (x .args .s .B) (omega arith) (w .inv .6) (w .inv .7) in
     omega arith
 
--- src/lib.rt:364:5
 loop-again : tie.Need-loop-again Inv-loop μ-loop
 loop-again c =
     let w = c .before .before .before .before .before .loop in
@@ -109,35 +100,28 @@ loop-again c =
       omega (arith, w .inv .9),
     )
 
--- src/lib.rt:373:9
 lay-segment-requires-2 : tie.Need-lay-segment-requires-2 Inv-loop μ-loop
 lay-segment-requires-2 c κs =
     let w = c .before .before .loop in
     (w .inv .1, w .inv .8, w .inv .9, omega arith)
 
--- src/lib.rt:376:23
 add-t24 : tie.Need-add-t24 Inv-loop μ-loop
 add-t24 c = search needs
 
--- src/lib.rt:376:15
 sub-t25 : tie.Need-sub-t25 Inv-loop μ-loop
 sub-t25 c = search needs
 
--- src/lib.rt:377:23
 add-t26 : tie.Need-add-t26 Inv-loop μ-loop
 add-t26 c = search needs
 
--- src/lib.rt:377:15
 sub-t27 : tie.Need-sub-t27 Inv-loop μ-loop
 sub-t27 c =
     let w = c .before .before .before .before .before .loop in
     omega (arith, w .inv .3)
 
--- src/lib.rt:344:1
 same-length : tie.Need-same-length Inv-loop μ-loop
 same-length c = search needs
 
--- src/lib.rt:344:1
 returns : tie.Need-returns Inv-loop μ-loop
 returns c =
     let w = c .before .before .before .before .before .loop in

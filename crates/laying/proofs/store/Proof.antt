@@ -14,23 +14,19 @@ use borrow.Author.Needs.{needs}
 use Rattle.laying.proofs.store.Statement.{statement}
 use Rattle.laying.proofs.store.Tie as tie
 
--- src/lib.rt:315:9
 returns : tie.Need-returns
 returns c =
     let a = c .before .before .before .before .args in
     stored-none (a .g) (now (a .image)) (a .c) (formatFor (a .form)) (a .blocked) (a .m * a .g .P) (a .B) (now (a .bodies)) (now (a .lengths)) (c .if1 .taken)
 
--- src/lib.rt:318:9
 returns-2 : tie.Need-returns-2
 returns-2 c =
     let a = c .before .before .before .before .before .before .args in
     stored-nowhere (a .g) (now (a .image)) (a .c) (formatFor (a .form)) (a .blocked) (a .m * a .g .P) (a .B) (now (a .bodies)) (now (a .lengths)) (c .if2 .taken)
 
--- src/lib.rt:320:20
 wide16-requires : tie.Need-wide16-requires
 wide16-requires c κs = search needs
 
--- src/lib.rt:320:16
 mul-size : tie.Need-mul-size
 mul-size c =
     let x = c .before .before .before .before .before .before .before in
@@ -38,11 +34,9 @@ mul-size c =
     let e : a .m * c .wide16 .result ≡ a .m * a .g .P = ap (λ (k : ℕ). a .m * k) (c .wide16 .ensures .0) in
     omega (arith, e, x .pre .4)
 
--- src/lib.rt:321:9
 begin-requires : tie.Need-begin-requires
 begin-requires c κs = search needs
 
--- src/lib.rt:322:5
 lay-list-requires : tie.Need-lay-list-requires
 lay-list-requires c κs =
     let x = c .before .before .before .before .before .before .before .before .before .before .before .before in
@@ -50,11 +44,9 @@ lay-list-requires c κs =
     let e : a .m * c .before .before .before .before .before .wide16 .result ≡ a .m * a .g .P = ap (λ (k : ℕ). a .m * k) (c .before .before .before .before .before .wide16 .ensures .0) in
     (c .before .before .before .begin .ensures .1, omega (arith, e, x .pre .3), omega (arith, e, x .pre .4), x .pre .5, x .pre .6, x .pre .7)
 
--- src/lib.rt:300:1
 same-length : tie.Need-same-length
 same-length c = search needs
 
--- src/lib.rt:300:1
 returns-3 : tie.Need-returns-3
 returns-3 c =
     let x = c .before .before .before .before .before .before .before .before .before .before .before .before .before .before .before in

@@ -55,16 +55,25 @@ at-requires-2 c κs = search needs
 
 returns-2 : tie.Need-returns-2
 returns-2 c =
+    let c5 = c .before .before .before .before .before in
+    let c6 = c5 .before in
+    let c7 = c6 .before in
+    let c8 = c7 .before in
+    let c10 = c8 .before .before in
     ap Stopped (c .at2 .ensures)
-    ∙ stops-behind _ _ (c .before .before .before .before .before .before .before .before .index-sectors .result) (c .before .before .before .before .before .before .before .before .index-sectors .ensures .0)
-    (c .before .before .before .later-sectors .result) (c .before .before .before .before .before .wide16 .result) (c .before .before .before .before .wide .result) (c .before .before .before .later-sectors .ensures .0) (c .before .before .before .before .before .wide16 .ensures .0) (c .before .before .before .before .wide .ensures .0) (c .before .before .before .before .before .before .before .before .before .before .pre)
-    (c .before .before .before .before .before .before .before .legal-run .result) (c .before .before .legal-run2 .result) (c .before .before .before .before .before .before .before .legal-run .ensures) (c .before .before .before .before .before .before .if1 .left) (c .before .before .legal-run2 .ensures) (c .before .if2 .taken)
+    ∙ stops-behind _ _ (c8 .index-sectors .result) (c8 .index-sectors .ensures .0)
+    (c .before .before .before .later-sectors .result) (c5 .wide16 .result) (c .before .before .before .before .wide .result) (c .before .before .before .later-sectors .ensures .0) (c5 .wide16 .ensures .0) (c .before .before .before .before .wide .ensures .0) (c10 .pre)
+    (c7 .legal-run .result) (c .before .before .legal-run2 .result) (c7 .legal-run .ensures) (c6 .if1 .left) (c .before .before .legal-run2 .ensures) (c .before .if2 .taken)
 
 returns-3 : tie.Need-returns-3
 returns-3 c =
-    stops-nowhere _ _ (c .before .before .before .before .before .before .before .index-sectors .result) (c .before .before .before .before .before .before .before .index-sectors .ensures .0)
-    (c .before .before .later-sectors .result) (c .before .before .before .before .wide16 .result) (c .before .before .before .wide .result) (c .before .before .later-sectors .ensures .0) (c .before .before .before .before .wide16 .ensures .0) (c .before .before .before .wide .ensures .0) (c .before .before .before .before .before .before .before .before .before .pre)
-    (c .before .before .before .before .before .before .legal-run .result) (c .before .legal-run2 .result) (c .before .before .before .before .before .before .legal-run .ensures) (c .before .before .before .before .before .if1 .left) (c .before .legal-run2 .ensures) (c .if2 .left)
+    let c5 = c .before .before .before .before .before in
+    let c6 = c5 .before in
+    let c7 = c6 .before in
+    let c9 = c7 .before .before in
+    stops-nowhere _ _ (c7 .index-sectors .result) (c7 .index-sectors .ensures .0)
+    (c .before .before .later-sectors .result) (c .before .before .before .before .wide16 .result) (c .before .before .before .wide .result) (c .before .before .later-sectors .ensures .0) (c .before .before .before .before .wide16 .ensures .0) (c .before .before .before .wide .ensures .0) (c9 .pre)
+    (c6 .legal-run .result) (c .before .legal-run2 .result) (c6 .legal-run .ensures) (c5 .if1 .left) (c .before .legal-run2 .ensures) (c .if2 .left)
 
 pub kinds-spec : {M : Type 1} → statement M
 kinds-spec =

@@ -36,8 +36,10 @@ same-length c = search needs
 
 returns-2 : tie.Need-returns-2
 returns-2 c =
-    let x = c .before .before .before .before .before .before .before .before .args in
-    let l = sym (c .before .before .before .before .before .is-label .ensures) ∙ not-false (c .before .before .before .before .before .is-label .result) (c .before .before .before .before .if1 .left) in
+    let c5 = c .before .before .before .before .before in
+    let c8 = c5 .before .before .before in
+    let x = c8 .args in
+    let l = sym (c5 .is-label .ensures) ∙ not-false (c5 .is-label .result) (c .before .before .before .before .if1 .left) in
     let p = c .before .before .label-line .ensures in
     (puts-as (a-line (x .g) (now (x .image)) (x .slot) l) (p .0), p .1)
 

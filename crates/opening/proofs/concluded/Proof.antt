@@ -53,22 +53,28 @@ is-blocked-requires c κs = search needs
 
 returns : tie.Need-returns
 returns c =
-    let x = c .before .before .before .before .before .before .before .before .before .args in
-    let p = c .before .before .before .before .before .before .before .before .before .pre in
-    let n = c .before .before .before .before .before .before .numbers-of in
+    let c6 = c .before .before .before .before .before .before in
+    let c9 = c6 .before .before .before in
+    let x = c9 .args in
+    let p = c9 .pre in
+    let n = c6 .numbers-of in
     shut-by (now (x .image)) (x .g) (x .slot) (p .0) (p .1) (p .2) (n .result) (n .ensures ∙ ap (numbersOf (x .g)) (p .3)) _
     (sym (c .before .before .before .tally-by .ensures) ∙ c .before .counted .given .1)
 
 returns-2 : tie.Need-returns-2
 returns-2 c =
-    let x = c .before .before .before .before .before .before .before .before .before .before .before .before .args in
-    let p = c .before .before .before .before .before .before .before .before .before .before .before .before .pre in
-    let n = c .before .before .before .before .before .before .before .before .before .numbers-of in
+    let c6 = c .before .before .before .before .before .before in
+    let c7 = c6 .before in
+    let c9 = c7 .before .before in
+    let c12 = c9 .before .before .before in
+    let x = c12 .args in
+    let p = c12 .pre in
+    let n = c9 .numbers-of in
     open-by (now (x .image)) (x .g) (x .slot) (p .0) (p .1) (p .2) (n .result) (n .ensures ∙ ap (numbersOf (x .g)) (p .3)) _ _ _ _
-    (c .before .before .is-whole .ensures ∙ ap isWhole (c .before .before .before .before .before .before .before .survey .ensures))
+    (c .before .before .is-whole .ensures ∙ ap isWhole (c7 .survey .ensures))
     (c .before .form-of .ensures ∙ ap (λ (h : List ℕ). formIn (formatOf h)) (p .3))
     (c .is-blocked .ensures ∙ ap isBlocked (p .3))
-    (sym (c .before .before .before .before .before .before .tally-by .ensures) ∙ c .before .before .before .before .counted2 .given .1)
+    (sym (c6 .tally-by .ensures) ∙ c .before .before .before .before .counted2 .given .1)
 
 pub concluded-spec : {M : Type 1} → statement M
 concluded-spec =

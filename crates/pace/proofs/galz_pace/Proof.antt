@@ -37,8 +37,11 @@ enum-known-o-2 c = search needs
 
 follow-requires : tie.Need-follow-requires
 follow-requires c κs =
-    let x = c .before .before .before .before .before .before .before .before .before .before .before .args in
-    opened-of (now (x .image)) _ (x .slot) _ (sym (c .before .before .before .before .before .before .before .before .judge .ensures) ∙ c .before .before .before .before .before .before .j .given .1) (sym (c .before .before .before .before .open-in .ensures) ∙ c .before .before .o2 .given .1)
+    let c6 = c .before .before .before .before .before .before in
+    let c8 = c6 .before .before in
+    let c11 = c8 .before .before .before in
+    let x = c11 .args in
+    opened-of (now (x .image)) _ (x .slot) _ (sym (c8 .judge .ensures) ∙ c6 .j .given .1) (sym (c .before .before .before .before .open-in .ensures) ∙ c .before .before .o2 .given .1)
 
 returns-2 : tie.Need-returns-2
 returns-2 c =
@@ -52,9 +55,14 @@ same-length c = search needs
 
 returns-3 : tie.Need-returns-3
 returns-3 c =
-    let x = c .before .before .before .before .before .before .before .before .before .before .before .before .before .before .args in
+    let c5 = c .before .before .before .before .before in
+    let c7 = c5 .before .before in
+    let c9 = c7 .before .before in
+    let c11 = c9 .before .before in
+    let c14 = c11 .before .before .before in
+    let x = c14 .args in
     let said = c .before .before .follow .ensures in (
-      said .0 ∙ paced-open (now (x .image)) (x .slot) (x .salvage) (length (now (x .out))) 1048576 _ _ (sym (c .before .before .before .before .before .before .before .before .before .before .before .judge .ensures) ∙ c .before .before .before .before .before .before .before .before .before .j .given .1) (sym (c .before .before .before .before .before .before .before .open-in .ensures) ∙ c .before .before .before .before .before .o2 .given .1),
+      said .0 ∙ paced-open (now (x .image)) (x .slot) (x .salvage) (length (now (x .out))) 1048576 _ _ (sym (c11 .judge .ensures) ∙ c9 .j .given .1) (sym (c7 .open-in .ensures) ∙ c5 .o2 .given .1),
       said .1,
     )
 

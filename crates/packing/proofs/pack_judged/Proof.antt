@@ -78,7 +78,11 @@ unfolding packedJudged
 returns c = c .pack-refusal .ensures ∙ sym (ap packedJudged (c .before .before .j .given .1))
 
 returns-2 : tie.Need-returns-2
-returns-2 c = volume-packed _ _ _ _ _ _ _ _ _ (c .before .before .before .before .before .before .before .before .j2 .given .1) (c .before .before .before .before .before .before .wide .ensures .0) (c .before .before .before .before .before .wide2 .ensures .0) (c .before .before .before .before .wide3 .ensures .0) (c .before .before .before .wide4 .ensures .0) (c .before .before .wide5 .ensures .0) (c .before .wide6 .ensures .0) (c .wide7 .ensures .0)
+returns-2 c =
+    let c5 = c .before .before .before .before .before in
+    let c6 = c5 .before in
+    let c8 = c6 .before .before in
+    volume-packed _ _ _ _ _ _ _ _ _ (c8 .j2 .given .1) (c6 .wide .ensures .0) (c5 .wide2 .ensures .0) (c .before .before .before .before .wide3 .ensures .0) (c .before .before .before .wide4 .ensures .0) (c .before .before .wide5 .ensures .0) (c .before .wide6 .ensures .0) (c .wide7 .ensures .0)
 
 pub pack-judged-spec : {M : Type 1} → statement M
 pack-judged-spec =

@@ -56,8 +56,12 @@ add-t21 c = search needs
 
 returns-2 : tie.Need-returns-2
 returns-2 c =
-    let t = (((c .before .before .before .before .before .before .before .before .is-digit .result && c .before .before .before .before .before .before .before .is-digit2 .result) && c .before .before .before .before .before .before .is-digit3 .result) && c .before .before .before .before .before .is-digit4 .result) in
-    digits-are _ _ _ _ t _ _ _ _ (and-4 _ _ _ _ _ _ _ _ (c .before .before .before .before .before .before .before .before .is-digit .ensures) (c .before .before .before .before .before .before .before .is-digit2 .ensures) (c .before .before .before .before .before .before .is-digit3 .ensures) (c .before .before .before .before .before .is-digit4 .ensures)) (not-false t (c .before .before .before .before .if1 .left)) (c .before .before .before .digit .ensures .0) (c .before .before .digit2 .ensures .0) (c .before .digit3 .ensures .0) (c .digit4 .ensures .0)
+    let c5 = c .before .before .before .before .before in
+    let c6 = c5 .before in
+    let c7 = c6 .before in
+    let c8 = c7 .before in
+    let t = (((c8 .is-digit .result && c7 .is-digit2 .result) && c6 .is-digit3 .result) && c5 .is-digit4 .result) in
+    digits-are _ _ _ _ t _ _ _ _ (and-4 _ _ _ _ _ _ _ _ (c8 .is-digit .ensures) (c7 .is-digit2 .ensures) (c6 .is-digit3 .ensures) (c5 .is-digit4 .ensures)) (not-false t (c .before .before .before .before .if1 .left)) (c .before .before .before .digit .ensures .0) (c .before .before .digit2 .ensures .0) (c .before .digit3 .ensures .0) (c .digit4 .ensures .0)
 
 pub four-digits-spec : {M : Type 1} → statement M
 four-digits-spec =

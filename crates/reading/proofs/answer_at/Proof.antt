@@ -40,27 +40,42 @@ enum-known-o-2 c = search needs
 
 first-seat-requires : tie.Need-first-seat-requires
 first-seat-requires c κs =
-    let x = c .before .before .before .before .before .before .before .before .before .before .args in
-    opened-of (now (x .image)) _ (x .slot) _ (sym (c .before .before .before .before .before .before .before .judge .ensures) ∙ c .before .before .before .before .before .j .given .1) (sym (c .before .before .before .open-in .ensures) ∙ c .before .o2 .given .1)
+    let c5 = c .before .before .before .before .before in
+    let c7 = c5 .before .before in
+    let c10 = c7 .before .before .before in
+    let x = c10 .args in
+    opened-of (now (x .image)) _ (x .slot) _ (sym (c7 .judge .ensures) ∙ c5 .j .given .1) (sym (c .before .before .before .open-in .ensures) ∙ c .before .o2 .given .1)
 
 read-on-requires : tie.Need-read-on-requires
 read-on-requires c κs =
-    let x = c .before .before .before .before .before .before .before .before .before .before .before .before .args in
-    (opened-of (now (x .image)) _ (x .slot) _ (sym (c .before .before .before .before .before .before .before .before .before .judge .ensures) ∙ c .before .before .before .before .before .before .before .j .given .1) (sym (c .before .before .before .before .before .open-in .ensures) ∙ c .before .before .before .o2 .given .1), c .before .first-seat .ensures)
+    let c5 = c .before .before .before .before .before in
+    let c7 = c5 .before .before in
+    let c9 = c7 .before .before in
+    let c12 = c9 .before .before .before in
+    let x = c12 .args in
+    (opened-of (now (x .image)) _ (x .slot) _ (sym (c9 .judge .ensures) ∙ c7 .j .given .1) (sym (c5 .open-in .ensures) ∙ c .before .before .before .o2 .given .1), c .before .first-seat .ensures)
 
 returns-2 : tie.Need-returns-2
 returns-2 c =
-    let x = c .before .before .before .before .before .before .before .before .before .before .args in
-    answer-shut (modeOf (x .salvage)) (now (x .image)) (x .slot) (x .place) (now (x .out)) _ _ (sym (c .before .before .before .before .before .before .before .judge .ensures) ∙ c .before .before .before .before .before .j .given .1) (sym (c .before .before .before .open-in .ensures) ∙ c .before .o .given .1)
+    let c5 = c .before .before .before .before .before in
+    let c7 = c5 .before .before in
+    let c10 = c7 .before .before .before in
+    let x = c10 .args in
+    answer-shut (modeOf (x .salvage)) (now (x .image)) (x .slot) (x .place) (now (x .out)) _ _ (sym (c7 .judge .ensures) ∙ c5 .j .given .1) (sym (c .before .before .before .open-in .ensures) ∙ c .before .o .given .1)
 
 same-length : tie.Need-same-length
 same-length c = search needs
 
 returns-3 : tie.Need-returns-3
 returns-3 c =
-    let x = c .before .before .before .before .before .before .before .before .before .before .before .before .before .before .before .args in
+    let c6 = c .before .before .before .before .before .before in
+    let c8 = c6 .before .before in
+    let c10 = c8 .before .before in
+    let c12 = c10 .before .before in
+    let c15 = c12 .before .before .before in
+    let x = c15 .args in
     let r = c .before .before .read-on .ensures in
-    answer-open (modeOf (x .salvage)) (now (x .image)) (x .slot) (x .place) (now (x .out)) _ _ _ _ (sym (c .before .before .before .before .before .before .before .before .before .before .before .before .judge .ensures) ∙ c .before .before .before .before .before .before .before .before .before .before .j .given .1) (sym (c .before .before .before .before .before .before .before .before .open-in .ensures) ∙ c .before .before .before .before .before .before .o2 .given .1) (r .0, r .1)
+    answer-open (modeOf (x .salvage)) (now (x .image)) (x .slot) (x .place) (now (x .out)) _ _ _ _ (sym (c12 .judge .ensures) ∙ c10 .j .given .1) (sym (c8 .open-in .ensures) ∙ c6 .o2 .given .1) (r .0, r .1)
 
 pub answer-at-spec : {M : Type 1} → statement M
 answer-at-spec =

@@ -40,9 +40,12 @@ same-length c = search needs
 
 returns-2 : tie.Need-returns-2
 returns-2 c =
-    let x = c .before .before .before .before .before .before .before .before .before .args in
-    let p = c .before .before .before .before .before .before .before .before .before .pre in
-    let h = sym (c .before .before .before .before .before .before .fits2 .ensures) ∙ not-false _ (c .before .before .before .before .before .if1 .left) in
+    let c5 = c .before .before .before .before .before in
+    let c6 = c5 .before in
+    let c9 = c6 .before .before .before in
+    let x = c9 .args in
+    let p = c9 .pre in
+    let h = sym (c6 .fits2 .ensures) ∙ not-false _ (c5 .if1 .left) in
     answers-yes (now (x .image)) (x .f) (p .0) (now (x .out)) (metFrom (now (x .image)) (x .f) (x .salvage) (x .w) []) (x .x) _ _ (p .3) h (c .answered2 .ensures) (c .before .before .before .deliver .ensures)
 
 pub at-length-spec : {M : Type 1} → statement M

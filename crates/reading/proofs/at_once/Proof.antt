@@ -49,13 +49,17 @@ same-length c = search needs
 
 returns-2 : tie.Need-returns-2
 returns-2 c =
-    let x = c .before .before .before .before .before .before .before .before .before .before .args in
-    let p = c .before .before .before .before .before .before .before .before .before .before .pre in
-    let h = sym (c .before .before .before .before .before .before .before .fits2 .ensures) ∙ not-false _ (c .before .before .before .before .before .before .if1 .left) in
+    let c5 = c .before .before .before .before .before in
+    let c6 = c5 .before in
+    let c7 = c6 .before in
+    let c10 = c7 .before .before .before in
+    let x = c10 .args in
+    let p = c10 .pre in
+    let h = sym (c7 .fits2 .ensures) ∙ not-false _ (c6 .if1 .left) in
     let l =
     once-laid (now (x .image)) (x .f) (x .w) (p .2) (x .x) (now (x .out)) _ (p .3) h
     (c .before .before .before .put .ensures
-    ∙ ap (λ (n : ℕ). paste (now (x .out)) (lengthOf (x .w .stand)) (bodyAhead (now (x .image)) (x .f) (x .w)) (n - lengthOf (x .w .stand))) (c .before .before .before .before .before .length-in .ensures)) in
+    ∙ ap (λ (n : ℕ). paste (now (x .out)) (lengthOf (x .w .stand)) (bodyAhead (now (x .image)) (x .f) (x .w)) (n - lengthOf (x .w .stand))) (c5 .length-in .ensures)) in
     answers-yes (now (x .image)) (x .f) (p .0) (now (x .out)) (metWith (grown (now (x .image)) (x .f) (x .w) [] (lengthIn (x .x))) (x .x)) (x .x) _ _
     (sym (done-measured (now (x .image)) (x .f) false (x .w) (x .x) [] (sym (p .2)) (p .3))) h (c .answered2 .ensures) l
 

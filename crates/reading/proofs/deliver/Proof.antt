@@ -40,12 +40,15 @@ length-in-requires c κs = search needs
 
 put-requires : tie.Need-put-requires Inv-loop μ-loop
 put-requires c κs =
-    let x = c .before .before .before .before .before .before .before .before .before .before .before .before .args in
-    let p = c .before .before .before .before .before .before .before .before .before .before .before .before .pre in
-    let l = c .before .before .before .before .before .before .before .before .before .loop in
+    let c5 = c .before .before .before .before .before in
+    let c9 = c5 .before .before .before .before in
+    let c12 = c9 .before .before .before in
+    let x = c12 .args in
+    let p = c12 .pre in
+    let l = c9 .loop in
     let r =
     subst (λ (n : ℕ). (Reached (now (x .image)) (x .f) (l .w) n) × (n ≤ length (l .out))) (sym (c .before .length-in .ensures))
-    (done-room (now (x .image)) (x .f) (x .salvage) (x .from) (now (x .out)) (l .w) (l .out) _ _ (c .before .before .before .before .before .take-turn .ensures) (c .before .before .before .t .given .1) (l .inv) (p .3)) in
+    (done-room (now (x .image)) (x .f) (x .salvage) (x .from) (now (x .out)) (l .w) (l .out) _ _ (c5 .take-turn .ensures) (c .before .before .before .t .given .1) (l .inv) (p .3)) in
     (p .0, l .inv .walking, r .0, r .1)
 
 same-length : tie.Need-same-length Inv-loop μ-loop
@@ -53,10 +56,14 @@ same-length c = search needs
 
 returns : tie.Need-returns Inv-loop μ-loop
 returns c =
-    let x = c .before .before .before .before .before .before .before .before .before .before .before .before .before .before .before .args in
-    let p = c .before .before .before .before .before .before .before .before .before .before .before .before .before .before .before .pre in
-    let l = c .before .before .before .before .before .before .before .before .before .before .before .before .loop in
-    delivered-done (now (x .image)) (x .f) (x .salvage) (x .from) (now (x .out)) (l .w) (l .out) _ _ _ (c .before .before .before .before .before .before .before .before .take-turn .ensures) (c .before .before .before .before .before .before .t .given .1) (l .inv) (p .3)
+    let c6 = c .before .before .before .before .before .before in
+    let c8 = c6 .before .before in
+    let c12 = c8 .before .before .before .before in
+    let c15 = c12 .before .before .before in
+    let x = c15 .args in
+    let p = c15 .pre in
+    let l = c12 .loop in
+    delivered-done (now (x .image)) (x .f) (x .salvage) (x .from) (now (x .out)) (l .w) (l .out) _ _ _ (c8 .take-turn .ensures) (c6 .t .given .1) (l .inv) (p .3)
     (c .before .before .put .ensures
     ∙ ap (λ (n : ℕ). paste (l .out) (lengthOf (l .w .stand)) (bodyAhead (now (x .image)) (x .f) (l .w)) (n - lengthOf (l .w .stand))) (c .before .before .before .before .length-in .ensures))
 
@@ -68,28 +75,39 @@ length-of-requires c κs = search needs
 
 put-requires-2 : tie.Need-put-requires-2 Inv-loop μ-loop
 put-requires-2 c κs =
-    let x = c .before .before .before .before .before .before .before .before .before .before .before .before .args in
-    let p = c .before .before .before .before .before .before .before .before .before .before .before .before .pre in
-    let l = c .before .before .before .before .before .before .before .before .before .loop in
+    let c5 = c .before .before .before .before .before in
+    let c9 = c5 .before .before .before .before in
+    let c12 = c9 .before .before .before in
+    let x = c12 .args in
+    let p = c12 .pre in
+    let l = c9 .loop in
     let r =
     subst (λ (n : ℕ). (Reached (now (x .image)) (x .f) (l .w) n) × (n ≤ length (l .out))) (sym (c .before .length-of .ensures))
-    (on-room (now (x .image)) (x .f) (x .salvage) (x .from) (now (x .out)) (l .w) _ (l .out) _ (c .before .before .before .before .before .take-turn .ensures) (c .before .before .before .t2 .given .1) (l .inv) (p .3)) in
+    (on-room (now (x .image)) (x .f) (x .salvage) (x .from) (now (x .out)) (l .w) _ (l .out) _ (c5 .take-turn .ensures) (c .before .before .before .t2 .given .1) (l .inv) (p .3)) in
     (p .0, l .inv .walking, r .0, r .1)
 
 loop-less : tie.Need-loop-less Inv-loop μ-loop
 loop-less c =
-    let x = c .before .before .before .before .before .before .before .before .before .before .before .before .before .before .before .args in
-    let p = c .before .before .before .before .before .before .before .before .before .before .before .before .before .before .before .pre in
-    let l = c .before .before .before .before .before .before .before .before .before .before .before .before .loop in
-    turned-less (now (x .image)) (x .f) (x .salvage) (l .w) _ _ (c .before .before .before .before .before .before .before .before .take-turn .ensures) (c .before .before .before .before .before .before .t2 .given .1) .1
+    let c6 = c .before .before .before .before .before .before in
+    let c8 = c6 .before .before in
+    let c12 = c8 .before .before .before .before in
+    let c15 = c12 .before .before .before in
+    let x = c15 .args in
+    let p = c15 .pre in
+    let l = c12 .loop in
+    turned-less (now (x .image)) (x .f) (x .salvage) (l .w) _ _ (c8 .take-turn .ensures) (c6 .t2 .given .1) .1
 
 loop-again : tie.Need-loop-again Inv-loop μ-loop
 loop-again c =
-    let x = c .before .before .before .before .before .before .before .before .before .before .before .before .before .before .before .args in
-    let p = c .before .before .before .before .before .before .before .before .before .before .before .before .before .before .before .pre in
-    let l = c .before .before .before .before .before .before .before .before .before .before .before .before .loop in
-    delivering-on (now (x .image)) (x .f) (x .salvage) (x .from) (now (x .out)) (l .w) _ (l .out) _ _ (c .before .before .before .before .before .before .before .before .take-turn .ensures) (c .before .before .before .before .before .before .t2 .given .1) (l .inv)
-    (on-room (now (x .image)) (x .f) (x .salvage) (x .from) (now (x .out)) (l .w) _ (l .out) _ (c .before .before .before .before .before .before .before .before .take-turn .ensures) (c .before .before .before .before .before .before .t2 .given .1) (l .inv) (p .3) .1)
+    let c6 = c .before .before .before .before .before .before in
+    let c8 = c6 .before .before in
+    let c12 = c8 .before .before .before .before in
+    let c15 = c12 .before .before .before in
+    let x = c15 .args in
+    let p = c15 .pre in
+    let l = c12 .loop in
+    delivering-on (now (x .image)) (x .f) (x .salvage) (x .from) (now (x .out)) (l .w) _ (l .out) _ _ (c8 .take-turn .ensures) (c6 .t2 .given .1) (l .inv)
+    (on-room (now (x .image)) (x .f) (x .salvage) (x .from) (now (x .out)) (l .w) _ (l .out) _ (c8 .take-turn .ensures) (c6 .t2 .given .1) (l .inv) (p .3) .1)
     (c .before .before .put2 .ensures
     ∙ ap (λ (n : ℕ). paste (l .out) (lengthOf (l .w .stand)) (bodyAhead (now (x .image)) (x .f) (l .w)) (n - lengthOf (l .w .stand))) (c .before .before .before .before .length-of .ensures))
 

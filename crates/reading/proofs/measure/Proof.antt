@@ -34,9 +34,11 @@ enum-known-t c = search needs
 
 returns : tie.Need-returns Inv-loop μ-loop
 returns c =
-    let x = c .before .before .before .before .before .before .before .before .before .args in
-    let p = c .before .before .before .before .before .before .before .before .before .pre in
-    let l = c .before .before .before .before .before .before .before .loop in
+    let c7 = c .before .before .before .before .before .before .before in
+    let c9 = c7 .before .before in
+    let x = c9 .args in
+    let p = c9 .pre in
+    let l = c7 .loop in
     measures-done (now (x .image)) (x .f) (x .salvage) (l .w) (x .from) _ _ (c .before .before .before .take-turn .ensures) (c .before .t .given .1) (l .inv .1)
 
 enum-known-t-2 : tie.Need-enum-known-t-2 Inv-loop μ-loop
@@ -44,16 +46,20 @@ enum-known-t-2 c = search needs
 
 loop-less : tie.Need-loop-less Inv-loop μ-loop
 loop-less c =
-    let x = c .before .before .before .before .before .before .before .before .before .args in
-    let p = c .before .before .before .before .before .before .before .before .before .pre in
-    let l = c .before .before .before .before .before .before .before .loop in
+    let c7 = c .before .before .before .before .before .before .before in
+    let c9 = c7 .before .before in
+    let x = c9 .args in
+    let p = c9 .pre in
+    let l = c7 .loop in
     turned-less (now (x .image)) (x .f) (x .salvage) (l .w) _ _ (c .before .before .before .take-turn .ensures) (c .before .t2 .given .1) .1
 
 loop-again : tie.Need-loop-again Inv-loop μ-loop
 loop-again c =
-    let x = c .before .before .before .before .before .before .before .before .before .args in
-    let p = c .before .before .before .before .before .before .before .before .before .pre in
-    let l = c .before .before .before .before .before .before .before .loop in
+    let c7 = c .before .before .before .before .before .before .before in
+    let c9 = c7 .before .before in
+    let x = c9 .args in
+    let p = c9 .pre in
+    let l = c7 .loop in
     (turned-less (now (x .image)) (x .f) (x .salvage) (l .w) _ _ (c .before .before .before .take-turn .ensures) (c .before .t2 .given .1) .0, same-on (now (x .image)) (x .f) (x .salvage) (l .w) (x .from) _ _ (c .before .before .before .take-turn .ensures) (c .before .t2 .given .1) (l .inv .1))
 
 at-end-requires : tie.Need-at-end-requires Inv-loop μ-loop

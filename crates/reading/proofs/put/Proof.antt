@@ -57,12 +57,15 @@ same-length c = search needs
 
 returns : tie.Need-returns
 returns c =
-    let x = c .before .before .before .before .before .before .before .before .before .before .args in
-    let p = c .before .before .before .before .before .before .before .before .before .before .pre in
-    let e = c .before .before .before .before .before .before .before .length-of .ensures in
-    let a = ahead-by (now (x .image)) (x .f) (x .w) _ _ _ (c .before .before .before .before .before .before .head .ensures) refl (c .before .before .before .before .onward .ensures .0) in
+    let c6 = c .before .before .before .before .before .before in
+    let c7 = c6 .before in
+    let c10 = c7 .before .before .before in
+    let x = c10 .args in
+    let p = c10 .pre in
+    let e = c7 .length-of .ensures in
+    let a = ahead-by (now (x .image)) (x .f) (x .w) _ _ _ (c6 .head .ensures) refl (c .before .before .before .before .onward .ensures .0) in
     c .before .before .copy .ensures
-    ∙ (ap (λ (s : List ℕ). paste (now (x .out)) (c .before .before .before .before .before .before .before .length-of .result) s (x .to - c .before .before .before .before .before .before .before .length-of .result)) a
+    ∙ (ap (λ (s : List ℕ). paste (now (x .out)) (c7 .length-of .result) s (x .to - c7 .length-of .result)) a
     ∙ ap (λ (n : ℕ). paste (now (x .out)) n (bodyAhead (now (x .image)) (x .f) (x .w)) (x .to - n)) e)
 
 pub put-spec : {M : Type 1} → statement M

@@ -38,9 +38,11 @@ enum-known-t c = search needs
 
 at-once-requires : tie.Need-at-once-requires Inv-loop μ-loop
 at-once-requires c κs =
-    let x = c .before .before .before .before .before .before .before .before .before .before .before .args in
-    let p = c .before .before .before .before .before .before .before .before .before .before .before .pre in
-    let l = c .before .before .before .before .before .before .before .before .loop in
+    let c8 = c .before .before .before .before .before .before .before .before in
+    let c11 = c8 .before .before .before in
+    let x = c11 .args in
+    let p = c11 .pre in
+    let l = c8 .loop in
     (p .0, l .inv .0, l .inv .1, done-says (now (x .image)) (x .f) (x .salvage) (l .w) _ _ (c .before .before .before .before .take-turn .ensures) (c .before .before .t .given .1) (l .inv .1) .1)
 
 same-length : tie.Need-same-length Inv-loop μ-loop
@@ -48,11 +50,15 @@ same-length c = search needs
 
 returns : tie.Need-returns Inv-loop μ-loop
 returns c =
-    let x = c .before .before .before .before .before .before .before .before .before .before .before .before .before .before .args in
-    let p = c .before .before .before .before .before .before .before .before .before .before .before .before .before .before .pre in
-    let l = c .before .before .before .before .before .before .before .before .before .before .before .loop in
+    let c5 = c .before .before .before .before .before in
+    let c7 = c5 .before .before in
+    let c11 = c7 .before .before .before .before in
+    let c14 = c11 .before .before .before in
+    let x = c14 .args in
+    let p = c14 .pre in
+    let l = c11 .loop in
     answers-from (now (x .image)) (x .f) _ _ (now (x .out)) (l .out) _ _
-    (sym (l .inv .2) ∙ done-says (now (x .image)) (x .f) (x .salvage) (l .w) _ _ (c .before .before .before .before .before .before .before .take-turn .ensures) (c .before .before .before .before .before .t .given .1) (l .inv .1) .0) (l .inv .3) (c .before .before .at-once .ensures)
+    (sym (l .inv .2) ∙ done-says (now (x .image)) (x .f) (x .salvage) (l .w) _ _ (c7 .take-turn .ensures) (c5 .t .given .1) (l .inv .1) .0) (l .inv .3) (c .before .before .at-once .ensures)
 
 enum-known-t-2 : tie.Need-enum-known-t-2 Inv-loop μ-loop
 enum-known-t-2 c = search needs
@@ -62,34 +68,46 @@ length-of-requires c κs = search needs
 
 measure-requires : tie.Need-measure-requires Inv-loop μ-loop
 measure-requires c κs =
-    let x = c .before .before .before .before .before .before .before .before .before .before .before .before .args in
-    let p = c .before .before .before .before .before .before .before .before .before .before .before .before .pre in
-    let l = c .before .before .before .before .before .before .before .before .before .loop in
-    (p .0, turned-less (now (x .image)) (x .f) (x .salvage) (l .w) _ _ (c .before .before .before .before .before .take-turn .ensures) (c .before .before .before .t2 .given .1) .0)
+    let c5 = c .before .before .before .before .before in
+    let c9 = c5 .before .before .before .before in
+    let c12 = c9 .before .before .before in
+    let x = c12 .args in
+    let p = c12 .pre in
+    let l = c9 .loop in
+    (p .0, turned-less (now (x .image)) (x .f) (x .salvage) (l .w) _ _ (c5 .take-turn .ensures) (c .before .before .before .t2 .given .1) .0)
 
 at-length-requires : tie.Need-at-length-requires Inv-loop μ-loop
 at-length-requires c κs =
-    let x = c .before .before .before .before .before .before .before .before .before .before .before .before .before .before .args in
-    let p = c .before .before .before .before .before .before .before .before .before .before .before .before .before .before .pre in
-    let l = c .before .before .before .before .before .before .before .before .before .before .before .loop in
-    (p .0, l .inv .0, l .inv .1, measures-on (now (x .image)) (x .f) (x .salvage) (l .w) _ _ _ (c .before .before .before .before .before .before .before .take-turn .ensures) (c .before .before .before .before .before .t2 .given .1) (c .before .measure .ensures) (l .inv .1))
+    let c5 = c .before .before .before .before .before in
+    let c7 = c5 .before .before in
+    let c11 = c7 .before .before .before .before in
+    let c14 = c11 .before .before .before in
+    let x = c14 .args in
+    let p = c14 .pre in
+    let l = c11 .loop in
+    (p .0, l .inv .0, l .inv .1, measures-on (now (x .image)) (x .f) (x .salvage) (l .w) _ _ _ (c7 .take-turn .ensures) (c5 .t2 .given .1) (c .before .measure .ensures) (l .inv .1))
 
 same-length-2 : tie.Need-same-length-2 Inv-loop μ-loop
 same-length-2 c = search needs
 
 returns-2 : tie.Need-returns-2 Inv-loop μ-loop
 returns-2 c =
-    let x = c .before .before .before .before .before .before .before .before .before .before .before .before .before .before .before .before .before .args in
-    let p = c .before .before .before .before .before .before .before .before .before .before .before .before .before .before .before .before .before .pre in
-    let l = c .before .before .before .before .before .before .before .before .before .before .before .before .before .before .loop in
+    let c14 = c .before .before .before .before .before .before .before .before .before .before .before .before .before .before in
+    let c17 = c14 .before .before .before in
+    let x = c17 .args in
+    let p = c17 .pre in
+    let l = c14 .loop in
     answers-from (now (x .image)) (x .f) _ _ (now (x .out)) (l .out) _ _ (sym (l .inv .2)) (l .inv .3) (c .before .before .at-length .ensures)
 
 loop-less : tie.Need-loop-less Inv-loop μ-loop
 loop-less c =
-    let x = c .before .before .before .before .before .before .before .before .before .before .before .before .args in
-    let p = c .before .before .before .before .before .before .before .before .before .before .before .before .pre in
-    let l = c .before .before .before .before .before .before .before .before .before .loop in
-    turned-less (now (x .image)) (x .f) (x .salvage) (l .w) _ _ (c .before .before .before .before .before .take-turn .ensures) (c .before .before .before .t2 .given .1) .1
+    let c5 = c .before .before .before .before .before in
+    let c9 = c5 .before .before .before .before in
+    let c12 = c9 .before .before .before in
+    let x = c12 .args in
+    let p = c12 .pre in
+    let l = c9 .loop in
+    turned-less (now (x .image)) (x .f) (x .salvage) (l .w) _ _ (c5 .take-turn .ensures) (c .before .before .before .t2 .given .1) .1
 
 loop-again : tie.Need-loop-again Inv-loop μ-loop
 loop-again c =

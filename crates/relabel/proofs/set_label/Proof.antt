@@ -26,9 +26,12 @@ same-length c = search needs
 
 returns : tie.Need-returns
 returns c =
-    let x = c .before .before .before .before .before .before .before .before .before .before .args in
-    let o = c .before .before .before .before .before .before .before .before .label-offset in
-    let p = c .before .before .before .before .before .before .put-unused in
+    let c6 = c .before .before .before .before .before .before in
+    let c8 = c6 .before .before in
+    let c10 = c8 .before .before in
+    let x = c10 .args in
+    let o = c8 .label-offset in
+    let p = c6 .put-unused in
     let q = c .before .before .put-end in
     set-both (x .g) (x .slot) (x .U) (o .result) (x .end) (now (x .image)) (p .last .0) (q .last .0) (o .ensures .0) (p .ensures) (q .ensures)
 

@@ -44,9 +44,12 @@ enum-known-moved-2 c = search needs
 
 carried-requires : tie.Need-carried-requires
 carried-requires c κs =
-    let x = c .before .before .before .before .before .before .before .before .before .args in
-    let p = c .before .before .before .before .before .before .before .before .before .pre in
-    (p .0, p .1, meet-as (x .f .form) (x .f .R) (x .w .stand) (x .digit) (x .size) (x .w .place .block) _ _ _ _ (c .before .before .before .before .before .before .limit .ensures) (c .before .before .before .before .before .head .ensures) (c .before .before .before .before .minus .ensures) (sym (c .before .moved2 .given .1) ∙ c .before .before .before .meet .ensures))
+    let c5 = c .before .before .before .before .before in
+    let c6 = c5 .before in
+    let c9 = c6 .before .before .before in
+    let x = c9 .args in
+    let p = c9 .pre in
+    (p .0, p .1, meet-as (x .f .form) (x .f .R) (x .w .stand) (x .digit) (x .size) (x .w .place .block) _ _ _ _ (c6 .limit .ensures) (c5 .head .ensures) (c .before .before .before .before .minus .ensures) (sym (c .before .moved2 .given .1) ∙ c .before .before .before .meet .ensures))
 
 enum-told : tie.Need-enum-told
 enum-told c = search needs
@@ -56,18 +59,26 @@ broken-at-requires c κs = search needs
 
 returns : tie.Need-returns
 returns c =
-    let x = c .before .before .before .before .before .before .before .before .before .before .before .args in
-    let p = c .before .before .before .before .before .before .before .before .before .before .before .pre in
-    turned-takes (now (x .image)) (x .f) (x .w) (p .0) (x .digit) (x .size) (p .1) (x .salvage) _ _ (c .behind .result) (meet-as (x .f .form) (x .f .R) (x .w .stand) (x .digit) (x .size) (x .w .place .block) _ _ _ _ (c .before .before .before .before .before .before .before .before .limit .ensures) (c .before .before .before .before .before .before .before .head .ensures) (c .before .before .before .before .before .before .minus .ensures) (sym (c .before .before .before .moved .given .1) ∙ c .before .before .before .before .before .meet .ensures)) (c .behind .ensures)
+    let c5 = c .before .before .before .before .before in
+    let c6 = c5 .before in
+    let c7 = c6 .before in
+    let c8 = c7 .before in
+    let c11 = c8 .before .before .before in
+    let x = c11 .args in
+    let p = c11 .pre in
+    turned-takes (now (x .image)) (x .f) (x .w) (p .0) (x .digit) (x .size) (p .1) (x .salvage) _ _ (c .behind .result) (meet-as (x .f .form) (x .f .R) (x .w .stand) (x .digit) (x .size) (x .w .place .block) _ _ _ _ (c8 .limit .ensures) (c7 .head .ensures) (c6 .minus .ensures) (sym (c .before .before .before .moved .given .1) ∙ c5 .meet .ensures)) (c .behind .ensures)
 
 returns-2 : tie.Need-returns-2
 returns-2 c = search needs
 
 returns-3 : tie.Need-returns-3
 returns-3 c =
-    let x = c .before .before .before .before .before .before .before .before .before .args in
-    let p = c .before .before .before .before .before .before .before .before .before .pre in
-    turned-breach (now (x .image)) (x .f) (x .w) (p .0) (x .digit) (x .size) (p .1) (x .salvage) (c .broken-at .result) (meet-as (x .f .form) (x .f .R) (x .w .stand) (x .digit) (x .size) (x .w .place .block) _ _ _ _ (c .before .before .before .before .before .before .limit .ensures) (c .before .before .before .before .before .head .ensures) (c .before .before .before .before .minus .ensures) (sym (c .before .enum-told .given .1) ∙ c .before .before .before .meet .ensures)) (c .broken-at .ensures)
+    let c5 = c .before .before .before .before .before in
+    let c6 = c5 .before in
+    let c9 = c6 .before .before .before in
+    let x = c9 .args in
+    let p = c9 .pre in
+    turned-breach (now (x .image)) (x .f) (x .w) (p .0) (x .digit) (x .size) (p .1) (x .salvage) (c .broken-at .result) (meet-as (x .f .form) (x .f .R) (x .w .stand) (x .digit) (x .size) (x .w .place .block) _ _ _ _ (c6 .limit .ensures) (c5 .head .ensures) (c .before .before .before .before .minus .ensures) (sym (c .before .enum-told .given .1) ∙ c .before .before .before .meet .ensures)) (c .broken-at .ensures)
 
 pub part-met-spec : {M : Type 1} → statement M
 part-met-spec =

@@ -39,22 +39,31 @@ enum-known-met c = search needs
 
 part-met-requires : tie.Need-part-met-requires
 part-met-requires c κs =
-    let x = c .before .before .before .before .before .before .before .before .args in
-    let p = c .before .before .before .before .before .before .before .before .pre in
-    (p, (sym (c .before .before .before .before .before .before .any-failed .ensures) ∙ c .before .before .before .before .before .if1 .left, sym (c .before .met .given .1) ∙ c .before .before .before .seen .ensures))
+    let c5 = c .before .before .before .before .before in
+    let c6 = c5 .before in
+    let c8 = c6 .before .before in
+    let x = c8 .args in
+    let p = c8 .pre in
+    (p, (sym (c6 .any-failed .ensures) ∙ c5 .if1 .left, sym (c .before .met .given .1) ∙ c .before .before .before .seen .ensures))
 
 returns-2 : tie.Need-returns-2
 returns-2 c =
-    let x = c .before .before .before .before .before .before .before .before .args in
-    let p = c .before .before .before .before .before .before .before .before .pre in
-    turned-blank (now (x .image)) (x .f) (x .w) p (x .salvage) (c .next .result) (sym (c .before .before .before .before .before .before .any-failed .ensures) ∙ c .before .before .before .before .before .if1 .left) (sym (c .before .enum-told .given .1) ∙ c .before .before .before .seen .ensures)
+    let c5 = c .before .before .before .before .before in
+    let c6 = c5 .before in
+    let c8 = c6 .before .before in
+    let x = c8 .args in
+    let p = c8 .pre in
+    turned-blank (now (x .image)) (x .f) (x .w) p (x .salvage) (c .next .result) (sym (c6 .any-failed .ensures) ∙ c5 .if1 .left) (sym (c .before .enum-told .given .1) ∙ c .before .before .before .seen .ensures)
     (c .next .ensures .0) (c .next .ensures .1) (c .next .ensures .2) (c .next .ensures .3)
 
 returns-3 : tie.Need-returns-3
 returns-3 c =
-    let x = c .before .before .before .before .before .before .before .before .args in
-    let p = c .before .before .before .before .before .before .before .before .pre in
-    turned-broken (now (x .image)) (x .f) (x .w) p (x .salvage) (c .broken-at .result) (sym (c .before .before .before .before .before .before .any-failed .ensures) ∙ c .before .before .before .before .before .if1 .left) (sym (c .before .enum-told2 .given .1) ∙ c .before .before .before .seen .ensures) (c .broken-at .ensures)
+    let c5 = c .before .before .before .before .before in
+    let c6 = c5 .before in
+    let c8 = c6 .before .before in
+    let x = c8 .args in
+    let p = c8 .pre in
+    turned-broken (now (x .image)) (x .f) (x .w) p (x .salvage) (c .broken-at .result) (sym (c6 .any-failed .ensures) ∙ c5 .if1 .left) (sym (c .before .enum-told2 .given .1) ∙ c .before .before .before .seen .ensures) (c .broken-at .ensures)
 
 returns-4 : tie.Need-returns-4
 returns-4 c = search needs

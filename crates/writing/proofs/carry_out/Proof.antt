@@ -21,9 +21,11 @@ store-requires c κs =
 
 set-label-requires : tie.Need-set-label-requires
 set-label-requires c κs =
-    let x = c .before .before .before .before .before .before .before .before .before .before .before in
+    let c6 = c .before .before .before .before .before .before in
+    let c11 = c6 .before .before .before .before .before in
+    let x = c11 in
     let a = x .args in
-    let t = c .before .before .before .before .before .before .to-good in
+    let t = c6 .to-good in
     let s = c .before .before .before .store in
     plan-room (a .g) (now (a .image)) (a .slot) (now (a .bodies)) (now (a .lengths)) (a .p) (x .pre) (t .result) (s .last .1 .0) (t .ensures .0) (s .ensures)
 
@@ -32,10 +34,13 @@ same-length c = search needs
 
 returns : tie.Need-returns
 returns c =
-    let x = c .before .before .before .before .before .before .before .before .before .before .before .before .before .before in
+    let c6 = c .before .before .before .before .before .before in
+    let c9 = c6 .before .before .before in
+    let c14 = c9 .before .before .before .before .before in
+    let x = c14 in
     let a = x .args in
-    let t = c .before .before .before .before .before .before .before .before .before .to-good in
-    let s = c .before .before .before .before .before .before .store in
+    let t = c9 .to-good in
+    let s = c6 .store in
     let l = c .before .before .set-label in
     plan-done (a .g) (now (a .image)) (a .slot) (now (a .bodies)) (now (a .lengths)) (a .p) (x .pre) (t .result) (s .last .1 .0) (t .ensures .0) (s .ensures) (l .last .1 .0) (l .ensures)
 

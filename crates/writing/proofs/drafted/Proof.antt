@@ -78,13 +78,16 @@ fitted-requires c κs =
 
 returns : tie.Need-returns
 returns c =
-    let x = c .before .before .before .before .before .before .before .before .before .before .before .before in
+    let c5 = c .before .before .before .before .before in
+    let c7 = c5 .before .before in
+    let c12 = c7 .before .before .before .before .before in
+    let x = c12 in
     let a = x .args in
     let p = x .pre in
     let h = now (a .image) in
-    let n = c .before .before .before .before .before .before .before .numbers-of in
+    let n = c7 .numbers-of in
     let en = n .ensures ∙ ap (numbersOf (a .g)) (p .3) in
-    let v = c .before .before .before .before .before .survey in
+    let v = c5 .survey in
     let f = c .before .before .before .before .form-of in
     let t = c .before .before .before .next-fault in
     let es = faults-are h (a .g) (a .slot) (p .0) (p .1) (p .2) (now (a .bodies)) (now (a .lengths)) (n .result) en (v .result) (f .result) (length (now (a .bodies))) (v .ensures) (f .ensures ∙ ap (λ (l : List ℕ). formIn (formatOf l)) (p .3)) refl in
@@ -92,14 +95,18 @@ returns c =
 
 returns-2 : tie.Need-returns-2
 returns-2 c =
-    let x = c .before .before .before .before .before .before .before .before .before .before .before .before .before in
+    let c5 = c .before .before .before .before .before in
+    let c6 = c5 .before in
+    let c8 = c6 .before .before in
+    let c13 = c8 .before .before .before .before .before in
+    let x = c13 in
     let a = x .args in
     let p = x .pre in
     let h = now (a .image) in
-    let n = c .before .before .before .before .before .before .before .before .numbers-of in
+    let n = c8 .numbers-of in
     let en = n .ensures ∙ ap (numbersOf (a .g)) (p .3) in
-    let v = c .before .before .before .before .before .before .survey in
-    let f = c .before .before .before .before .before .form-of in
+    let v = c6 .survey in
+    let f = c5 .form-of in
     let t = c .before .before .before .before .next-fault in
     let es = faults-are h (a .g) (a .slot) (p .0) (p .1) (p .2) (now (a .bodies)) (now (a .lengths)) (n .result) en (v .result) (f .result) (length (now (a .bodies))) (v .ensures) (f .ensures ∙ ap (λ (l : List ℕ). formIn (formatOf l)) (p .3)) refl in
     let ok = sym es ∙ (sym (t .ensures) ∙ c .before .before .enum-told .given .1) in

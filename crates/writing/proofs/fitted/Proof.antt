@@ -61,13 +61,16 @@ at-requires c κs = search needs
 
 returns : tie.Need-returns
 returns c =
-    let x = c .before .before .before .before .before .before .before .before .before .before in
+    let c5 = c .before .before .before .before .before in
+    let c6 = c5 .before in
+    let c10 = c6 .before .before .before .before in
+    let x = c10 in
     let a = x .args in
     let p = x .pre in
     let h = now (a .image) in
     let en = p .5 ∙ ap (numbersOf (a .g)) (p .3) in
-    let f = c .before .before .before .before .before .before .form-of in
-    let b = c .before .before .before .before .before .is-blocked in
+    let f = c6 .form-of in
+    let b = c5 .is-blocked in
     let ef = f .ensures ∙ ap (λ (l : List ℕ). formIn (formatOf l)) (p .3) in
     let eb = b .ensures ∙ ap isBlocked (p .3) in
     let v = c .before .before .before .level-after in
@@ -81,7 +84,8 @@ end-of-requires c κs = search needs
 
 data-end-requires : tie.Need-data-end-requires
 data-end-requires c κs =
-    let x = c .before .before .before .before .before .before .before .before .before .before in
+    let c10 = c .before .before .before .before .before .before .before .before .before .before in
+    let x = c10 in
     let a = x .args in
     let p = x .pre in
     let h = now (a .image) in
@@ -92,13 +96,16 @@ data-end-requires c κs =
 
 returns-2 : tie.Need-returns-2
 returns-2 c =
-    let x = c .before .before .before .before .before .before .before .before .before .before .before in
+    let c6 = c .before .before .before .before .before .before in
+    let c7 = c6 .before in
+    let c11 = c7 .before .before .before .before in
+    let x = c11 in
     let a = x .args in
     let p = x .pre in
     let h = now (a .image) in
     let en = p .5 ∙ ap (numbersOf (a .g)) (p .3) in
-    let f = c .before .before .before .before .before .before .before .form-of in
-    let b = c .before .before .before .before .before .before .is-blocked in
+    let f = c7 .form-of in
+    let b = c6 .is-blocked in
     let ef = f .ensures ∙ ap (λ (l : List ℕ). formIn (formatOf l)) (p .3) in
     let eb = b .ensures ∙ ap isBlocked (p .3) in
     let v = c .before .before .before .before .level-after in

@@ -44,11 +44,14 @@ at-requires c κs = search needs
 
 returns : tie.Need-returns
 returns c =
-    let x = c .before .before .before .before .before .before .before .before .before .before .before in
+    let c5 = c .before .before .before .before .before in
+    let c7 = c5 .before .before in
+    let c11 = c7 .before .before .before .before in
+    let x = c11 in
     let a = x .args in
     let i = now (a .image) in
-    let u = c .before .before .before .before .before .before .before .usable in
-    let ok = sym (u .ensures) ∙ c .before .before .before .before .before .enum-told .given .1 in
+    let u = c7 .usable in
+    let ok = sym (u .ensures) ∙ c5 .enum-told .given .1 in
     let f = usable-facts (a .g) i (a .slot) ok in
     let l = c .before .before .before .before .label-at in
     let w = c .before .before .wide in
@@ -57,10 +60,12 @@ returns c =
 
 drafted-requires : tie.Need-drafted-requires
 drafted-requires c κs =
-    let x = c .before .before .before .before .before .before .before .before .before .before in
+    let c6 = c .before .before .before .before .before .before in
+    let c10 = c6 .before .before .before .before in
+    let x = c10 in
     let a = x .args in
     let i = now (a .image) in
-    let u = c .before .before .before .before .before .before .usable in
+    let u = c6 .usable in
     let ok = sym (u .ensures) ∙ c .before .before .before .before .enum-told .given .1 in
     let f = usable-facts (a .g) i (a .slot) ok in
     let l = c .before .before .before .label-at in
@@ -73,11 +78,14 @@ returns-2 c =
 
 returns-3 : tie.Need-returns-3
 returns-3 c =
-    let x = c .before .before .before .before .before .before .before .before .before .before .before in
+    let c5 = c .before .before .before .before .before in
+    let c7 = c5 .before .before in
+    let c11 = c7 .before .before .before .before in
+    let x = c11 in
     let a = x .args in
     let i = now (a .image) in
-    let u = c .before .before .before .before .before .before .before .usable in
-    let ok = sym (u .ensures) ∙ c .before .before .before .before .before .enum-told .given .1 in
+    let u = c7 .usable in
+    let ok = sym (u .ensures) ∙ c5 .enum-told .given .1 in
     let f = usable-facts (a .g) i (a .slot) ok in
     let l = c .before .before .before .before .label-at in
     let w = c .before .before .wide in
