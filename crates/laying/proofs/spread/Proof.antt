@@ -43,7 +43,7 @@ sub-k : tie.Need-sub-k Inv-loop μ-loop
 sub-k c =
     let w = c .before .loop in
     let x = c .before .before .before .before .before in
-    let o = six-left (w .n) (w .room) (x .args .s .B) (omega arith) (w .inv .6) (w .inv .7) in
+    let o = six-left (w .n) (w .room) (x .args .s .B) (c .loop-test .taken) (w .inv .6) (w .inv .7) in
     omega arith
 
 sub-lay-segment : tie.Need-sub-lay-segment Inv-loop μ-loop
@@ -53,41 +53,41 @@ lay-segment-requires : tie.Need-lay-segment-requires Inv-loop μ-loop
 lay-segment-requires c κs =
     let w = c .before .before .loop in
     let x = c .before .before .before .before .before .before in
-    let o = six-left (w .n) (w .room) (x .args .s .B) (omega arith) (w .inv .6) (w .inv .7) in
+    let o = six-left (w .n) (w .room) (x .args .s .B) (c .before .loop-test .taken) (w .inv .6) (w .inv .7) in
     (w .inv .1, omega (arith, w .inv .8), omega (arith, w .inv .9), omega (arith, x .pre .0 .1))
 
 add-from : tie.Need-add-from Inv-loop μ-loop
 add-from c =
     let w = c .before .before .before .before .before .loop in
     let x = c .before .before .before .before .before .before .before .before .before in
-    let o = six-left (w .n) (w .room) (x .args .s .B) (omega arith) (w .inv .6) (w .inv .7) in
+    let o = six-left (w .n) (w .room) (x .args .s .B) (c .before .before .before .before .loop-test .taken) (w .inv .6) (w .inv .7) in
     omega (arith, w .inv .8)
 
 sub-n : tie.Need-sub-n Inv-loop μ-loop
 sub-n c =
     let w = c .before .before .before .before .before .loop in
     let x = c .before .before .before .before .before .before .before .before .before in
-    let o = six-left (w .n) (w .room) (x .args .s .B) (omega arith) (w .inv .6) (w .inv .7) in
+    let o = six-left (w .n) (w .room) (x .args .s .B) (c .before .before .before .before .loop-test .taken) (w .inv .6) (w .inv .7) in
     omega arith
 
 loop-less : tie.Need-loop-less Inv-loop μ-loop
 loop-less c =
     let w = c .before .before .before .before .before .loop in
     let x = c .before .before .before .before .before .before .before .before .before in
-    let o = six-left (w .n) (w .room) (x .args .s .B) (omega arith) (w .inv .6) (w .inv .7) in
+    let o = six-left (w .n) (w .room) (x .args .s .B) (c .before .before .before .before .loop-test .taken) (w .inv .6) (w .inv .7) in
     omega arith
 
 loop-again : tie.Need-loop-again Inv-loop μ-loop
 loop-again c =
     let w = c .before .before .before .before .before .loop in
     let x = c .before .before .before .before .before .before .before .before .before in
-    let o = six-left (w .n) (w .room) (x .args .s .B) (omega arith) (w .inv .6) (w .inv .7) in
+    let o = six-left (w .n) (w .room) (x .args .s .B) (c .before .before .before .before .loop-test .taken) (w .inv .6) (w .inv .7) in
     let a = x .args in
     let k = w .room - 5 in
     let t = c .before .before .lay-segment in
     let f = least-most (w .n - k) in
     let on = segment-on (a .g) (a .s .size) (a .s .B) (now (a .bodies)) (w .image) (t .last .1 .0) (w .p) (t .result) (w .room) (w .rest) (w .from) (w .n) (w .begun)
-    (w .inv .8) (omega arith) (w .inv .6) (w .inv .7) (w .inv .3) (t .ensures) in (
+    (w .inv .8) (c .before .before .before .before .loop-test .taken) (w .inv .6) (w .inv .7) (w .inv .3) (t .ensures) in (
       λ more tail. w .inv .0 more tail ∙ on more tail,
       t .ensures .1,
       t .ensures .1 .0 .0 ∙ sym (x .pre .1 .0 .0 .0),
@@ -129,7 +129,7 @@ returns c =
     let a = x .args in
     let t = c .before .before .lay-segment2 in
     let on = segment-end (a .g) (a .s .size) (a .s .B) (now (a .bodies)) (w .image) (t .last .1 .0) (w .p) (t .result) (w .room) (w .rest) (w .from) (w .n) (w .begun)
-    (w .inv .8) (omega arith) (t .ensures) in (
+    (w .inv .8) (c .before .before .before .before .loop-test .left) (t .ensures) in (
       λ more tail. w .inv .0 more tail ∙ on more tail,
       (t .ensures .1, omega (arith, w .inv .3), omega (arith, w .inv .4), omega (arith, w .inv .5)),
     )
