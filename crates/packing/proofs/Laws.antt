@@ -1,10 +1,7 @@
 -- Each case of an answer, packed: from what the code has of the case.
 -- Assumes nothing.
-use Prim.Native.Nat.{ℕ, _+_, _*_, _<_, _^_}
+use Prim.Native.Nat.{ℕ, _+_, _*_, _^_}
 use mathlib.Core.Path.{_≡_, sym, ap, _∙_}
-use native.Mathlib.Omega.{arith}
-use mir.Syntax.{w64}
-use mir.Val.{Fits}
 use Rattle.standard.specs.Packed.{most, packedRefusal, packedJudged, packedPlace, packedAnswer}
 use Rattle.standard.specs.declared.Refusal.{Refusal}
 use Rattle.standard.specs.declared.Geometry.{Geometry}
@@ -14,20 +11,6 @@ use Rattle.standard.specs.declared.Place.{Place}
 use Rattle.standard.specs.declared.Answer.{Answer}
 use Rattle.standard.specs.declared.Answer.the-variants.{Record, Gap, End}
 
--- what has room does not wrap
-pub slot-fits : (slot : ℕ) → slot < 2 ^ 32 → Fits w64 (slot * 16777216)
-slot-fits slot h = omega arith
-
-pub found-fits : (slot offset : ℕ) → slot < 2 ^ 32 → offset < 2 ^ 24 → Fits w64 (slot * 16777216 + offset)
-found-fits slot offset h o = omega arith
-
-pub length-fits : (n : ℕ) → n < 2 ^ 24 → Fits w64 (n * 4294967296)
-length-fits n h = omega arith
-
-pub record-fits : (n p : ℕ) → n < 2 ^ 24 → p < 2 ^ 32 → Fits w64 (n * 4294967296 + p)
-record-fits n p h q = omega arith
-
--- the cases
 pub refusal-packed : (r : Refusal) (n a b c : ℕ) → n ≡ r .number → a ≡ most 32 (r .first) → b ≡ most 20 (r .second) → c ≡ most 4 (r .third)
     → n * 2 ^ 56 + a * 2 ^ 24 + b * 2 ^ 4 + c ≡ packedRefusal r
 unfolding packedRefusal

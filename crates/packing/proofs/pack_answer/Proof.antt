@@ -1,10 +1,11 @@
 -- `pack_answer` meets its contract, case by case; what has room is known of the case.
 -- Assumes nothing.
 use mathlib.Core.Path.{sym, ap, subst, _∙_}
+use native.Mathlib.Omega.{arith}
 use borrow.Author.Needs.{needs}
 use Rattle.standard.specs.Packed.{packedAnswer}
 use Rattle.packing.specs.Room.{AnswerFits}
-use Rattle.packing.proofs.Laws.{length-fits, record-fits, record-packed, gap-packed, end-packed}
+use Rattle.packing.proofs.Laws.{record-packed, gap-packed, end-packed}
 use Rattle.packing.proofs.pack_answer.Statement.{statement}
 use Rattle.packing.proofs.pack_answer.Tie as tie
 
@@ -18,15 +19,13 @@ enum-known-a-2 : tie.Need-enum-known-a-2
 enum-known-a-2 c = search needs
 
 mul-result : tie.Need-mul-result
-mul-result c = length-fits _ (subst AnswerFits (c .before .a2 .given .1) (c .before .before .before .pre) .0)
+mul-result c = omega (arith, subst AnswerFits (c .before .a2 .given .1) (c .before .before .before .pre))
 
 pack-place-requires : tie.Need-pack-place-requires
 pack-place-requires c κs = subst AnswerFits (c .before .a2 .given .1) (c .before .before .before .pre) .1
 
 add-result : tie.Need-add-result
-add-result c =
-    let room = subst AnswerFits (c .before .before .a2 .given .1) (c .before .before .before .before .pre) in
-    record-fits _ _ (room .0) (c .pack-place .ensures .1)
+add-result c = omega (arith, subst AnswerFits (c .before .before .a2 .given .1) (c .before .before .before .before .pre))
 
 enum-known-a-3 : tie.Need-enum-known-a-3
 enum-known-a-3 c = search needs

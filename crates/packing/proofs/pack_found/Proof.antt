@@ -1,10 +1,10 @@
 -- `pack_found` meets its contract, case by case; what has room is known of the case.
 -- Assumes nothing.
 use mathlib.Core.Path.{sym, ap, subst, _∙_}
+use native.Mathlib.Omega.{arith}
 use borrow.Author.Needs.{needs}
 use Rattle.standard.specs.Packed.{packedFound}
 use Rattle.packing.specs.Room.{FoundFits}
-use Rattle.packing.proofs.Laws.{slot-fits, found-fits}
 use Rattle.packing.proofs.pack_found.Statement.{statement}
 use Rattle.packing.proofs.pack_found.Tie as tie
 
@@ -18,12 +18,10 @@ enum-known-f-2 : tie.Need-enum-known-f-2
 enum-known-f-2 c = search needs
 
 mul-result : tie.Need-mul-result
-mul-result c = slot-fits _ (subst FoundFits (c .before .f2 .given .1) (c .before .before .before .pre) .0)
+mul-result c = omega (arith, subst FoundFits (c .before .f2 .given .1) (c .before .before .before .pre))
 
 add-result : tie.Need-add-result
-add-result c =
-    let room = subst FoundFits (c .before .f2 .given .1) (c .before .before .before .pre) in
-    found-fits _ _ (room .0) (room .1)
+add-result c = omega (arith, subst FoundFits (c .before .f2 .given .1) (c .before .before .before .pre))
 
 returns : tie.Need-returns
 unfolding packedFound
