@@ -1,4 +1,4 @@
--- HOW MANY BLOCKS A WRITE NEEDS: counted from the lengths alone, and how large the number can be.
+-- HOW MANY BLOCKS A WRITE NEEDS, AND U: counted from the lengths alone, and how large the number of blocks can be.
 -- Assumes nothing.
 use Prim.Native.Nat.{ℕ, zero, suc, _+_, _-_, _<_, _≤_}
 use mathlib.Core.Path.{_≡_, refl, sym, ap, subst, _∙_}
