@@ -31,7 +31,7 @@ use Rattle.standard.specs.declared.Checked.the-variants.{Passed, Stopped}
 use Rattle.standard.specs.declared.Judged.{Judged}
 use Rattle.standard.specs.declared.Judged.the-variants.{Volume}
 use Rattle.promises.specs.Basics.{either, lt-or-le, by-test, never}
-use Rattle.promises.specs.Lists.{Every}
+use Rattle.promises.specs.Lists.{every-at}
 use Rattle.promises.specs.AddressLaws.{rank-lt, step-rank, step-legal}
 use Rattle.promises.specs.AcceptedLaws.{InRange, bounds-extent}
 use Rattle.promises.specs.ExtentAddresses.{Rising, Between, rising-every, good-rising}
@@ -41,11 +41,6 @@ use Rattle.promises.specs.WriteEnds.{end-of-some, end-of-all, record-there}
 use Rattle.promises.specs.Following.{Heard, told, onward, following, heardIn}
 use Rattle.promises.specs.Refusing.{replyOn}
 use Rattle.promises.specs.Demands.{reading-gives}
-
-every-at : {A : Type 0} (C : A → Type 0) (xs : List A) → Every C xs → (i : ℕ) → i < length xs → (d : A) → C (getD xs i d)
-every-at C [] h i l d = absurd (not-suc-le-zero l)
-every-at C (a ∷ xs) h zero l d = h .0
-every-at C (a ∷ xs) h (suc i) l d = every-at C xs (h .1) i (omega arith) d
 
 -- one of a list stands somewhere in it
 place-of : (xs : List Address) (a : Address) → List·Memᴰ a xs → (d : Address) → (i : ℕ) × (i < length xs) × (getD xs i d ≡ a)
