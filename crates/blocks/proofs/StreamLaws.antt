@@ -23,7 +23,8 @@ use Rattle.promises.specs.FullBlocks.{body-full, bytes-full}
 use Rattle.extents.specs.Cursors.{legalOn, legalAt, goodFrom, standingFrom, standing}
 use Rattle.extents.specs.declared.Cursor.{Cursor}
 use Rattle.extents.proofs.CursorLaws.{legal-head}
-use Rattle.blocks.specs.Streams.{Fits, stream, fiveOf}
+use Rattle.layout.specs.Room.{Sized}
+use Rattle.blocks.specs.Streams.{stream, fiveOf}
 use Rattle.blocks.specs.declared.Five.{Five}
 
 -- the records ahead of a cursor are legal
@@ -59,7 +60,7 @@ bytes-drop g image e (suc n) (a ∷ xs) h =
     bytes-drop g image e n xs (h .1) ∙ (sym (drop-append-add b (bytesOf g image xs) (n * g .P)) ∙ ap (λ (k : ℕ). drop k (b ++ bytesOf g image xs)) (sym l))
 
 -- so many records have so many bytes
-pub stream-long : (g : Geometry) (image : List ℕ) (c : Cursor) (m : ℕ) → m ≤ length (standing g image c) → Fits g image → legalAt g c ≡ true
+pub stream-long : (g : Geometry) (image : List ℕ) (c : Cursor) (m : ℕ) → m ≤ length (standing g image c) → Sized g image → legalAt g c ≡ true
     → m * g .P ≤ length (bytesOf g image (standing g image c))
 stream-long g image c m l f h =
     omega (arith, bytes-full g image (f .0) (standing g image c) (standing-legal g image c h), mul-le-mul-right (g .P) l)

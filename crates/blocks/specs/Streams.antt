@@ -4,16 +4,11 @@ use Prim.Native.Nat.{ℕ, _≤_}
 use mathlib.Core.Path.{_≡_}
 use mathlib.Core.List.{List}
 use lib.ListN.{length, getD, drop}
-use Rattle.standard.specs.Layout.{imageLength}
 use Rattle.standard.specs.Files.{bytesOf}
 use Rattle.standard.specs.declared.Geometry.{Geometry}
 use Rattle.extents.specs.Cursors.{standing}
 use Rattle.extents.specs.declared.Cursor.{Cursor}
 use Rattle.blocks.specs.declared.Five.{Five}
-
--- "Length: S·I·129 + (L+3)·S·D·(P+1) bytes": what of an accepted image the walk over bodies needs
-abbrev pub Fits : Geometry → List ℕ → Type 0
-Fits g image = (length image ≡ imageLength g) × (1 ≤ g .P)
 
 -- "blocks take m good records in turn": the bytes of the good records in turn, from byte i of the one under the cursor on
 unfoldable pub stream : Geometry → List ℕ → Cursor → ℕ → List ℕ

@@ -21,7 +21,8 @@ ghost use Rattle.standard.specs.Addresses.{ordinal};
 ghost use Rattle.standard.specs.Pieces.{isFill};
 ghost use Rattle.standard.specs.Files.{anyFailed};
 ghost use Rattle.extents.specs.Cursors.{legalAt, standing};
-ghost use Rattle.blocks.specs.Streams.{Fits, stream, fiveOf};
+ghost use Rattle.layout.specs.Room.{Sized};
+ghost use Rattle.blocks.specs.Streams.{stream, fiveOf};
 
 // A cursor in an extent, and a byte of the record under it.
 pub struct Spot {
@@ -48,7 +49,7 @@ fn byte_offset(g: Geometry, c: Cursor, i: u64) -> u64
 
 // The byte at a spot, 00 behind the last record.
 fn here(g: Geometry, image: &[u8], c: Cursor, i: u64) -> u64
-    requires { ⌜ (Fits g (now image)) × (legalAt g c ≡ true) × (i < g .P) ⌝ }
+    requires { ⌜ (Sized g (now image)) × (legalAt g c ≡ true) × (i < g .P) ⌝ }
     ensures { λ r. ⌜ (r ≡ getD (stream g (now (image .entry)) c i) 0 0) × (r < 256) ⌝ }
 {
     if c.left == 0 {
@@ -59,7 +60,7 @@ fn here(g: Geometry, image: &[u8], c: Cursor, i: u64) -> u64
 
 // Onward k bytes: most often inside the record, where nothing is walked or divided.
 pub fn onward(g: Geometry, image: &[u8], c: Cursor, i: u64, k: u64) -> Spot
-    requires { ⌜ (Fits g (now image)) × (legalAt g c ≡ true) × (i < 4294967296) × (k < 4294967296) ⌝ }
+    requires { ⌜ (Sized g (now image)) × (legalAt g c ≡ true) × (i < 4294967296) × (k < 4294967296) ⌝ }
     ensures { λ r. ⌜ (stream g (now (image .entry)) (r .c) (r .i) ≡ drop k (stream g (now (image .entry)) c i)) × (legalAt g (r .c) ≡ true) × (r .i < g .P) × (r .c .left ≤ c .left) ⌝ }
 {
     let p = wide16(g.P);
@@ -74,7 +75,7 @@ pub fn onward(g: Geometry, image: &[u8], c: Cursor, i: u64, k: u64) -> Spot
 
 // The byte k bytes on from a spot.
 fn peek(g: Geometry, image: &[u8], c: Cursor, i: u64, k: u64) -> u64
-    requires { ⌜ (Fits g (now image)) × (legalAt g c ≡ true) × (i < 4294967296) × (k < 4294967296) ⌝ }
+    requires { ⌜ (Sized g (now image)) × (legalAt g c ≡ true) × (i < 4294967296) × (k < 4294967296) ⌝ }
     ensures { λ r. ⌜ (r ≡ getD (stream g (now (image .entry)) c i) k 0) × (r < 256) ⌝ }
 {
     let s = onward(g, image, c, i, k);
@@ -97,7 +98,7 @@ fn five_at(image: &[u8], o: usize) -> Five
 
 // The first five bytes from a spot on: in one run where they stand in one record, else byte by byte.
 pub fn first_five(g: Geometry, image: &[u8], c: Cursor, i: u64) -> Five
-    requires { ⌜ (Fits g (now image)) × (legalAt g c ≡ true) × (i < g .P) ⌝ }
+    requires { ⌜ (Sized g (now image)) × (legalAt g c ≡ true) × (i < g .P) ⌝ }
     ensures { λ r. ⌜ (r ≡ fiveOf (stream g (now (image .entry)) c i)) × (r .a < 256) × (r .b < 256) × (r .c < 256) × (r .d < 256) × (r .e < 256) ⌝ }
 {
     let p = wide16(g.P);
@@ -134,7 +135,7 @@ fn fill_run(image: &[u8], from: u64, n: u64) -> bool
 // "Fill is byte 00." Whether the bytes from a spot on are fill, so many as are asked or as there are: record by record, and none is walked to behind the last
 // one that is asked.
 pub fn all_fill(g: Geometry, image: &[u8], from: Cursor, first: u64, count: u64) -> bool
-    requires { ⌜ (Fits g (now image)) × (legalAt g from ≡ true) × (first < g .P) × (count < 65536) ⌝ }
+    requires { ⌜ (Sized g (now image)) × (legalAt g from ≡ true) × (first < g .P) × (count < 65536) ⌝ }
     ensures { λ r. ⌜ r ≡ isFill (take count (stream g (now (image .entry)) from first)) ⌝ }
 {
     let p = wide16(g.P);
@@ -181,7 +182,7 @@ pub fn copy(
     to: u64,
     count: u64,
 )
-    requires { ⌜ (Fits g (now image)) × (legalAt g from ≡ true) × (first < g .P) × (count < 65536) × (count ≤ length (stream g (now image) from first)) × (to + count ≤ length (now out)) × (to < 4294967296) ⌝ }
+    requires { ⌜ (Sized g (now image)) × (legalAt g from ≡ true) × (first < g .P) × (count < 65536) × (count ≤ length (stream g (now image) from first)) × (to + count ≤ length (now out)) × (to < 4294967296) ⌝ }
     ensures { λ r. ⌜ now (out .exit) ≡ paste (now (out .entry)) to (stream g (now (image .entry)) from first) count ⌝ }
 {
     if count == 0 {

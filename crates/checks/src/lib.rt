@@ -49,17 +49,6 @@ pub fn is_other(c: u64, right44: bool) -> bool
     right44 & !((c == 32) | (c == 49) | (c == 50))
 }
 
-// "6-22 a-set; levels space and 1 have spaces in 14-22."
-pub fn name_right(h: &[u8], c: u64) -> bool
-    requires { ⌜ (length (now h) ≡ 128) × (c ≡ level (now h)) ⌝ }
-    ensures { λ r. ⌜ r ≡ rule6 (now (h .entry)) ⌝ }
-{
-    if (c == 32) | (c == 49) {
-        return short_name(h);
-    }
-    all_of(Class::Aset, &h[5..22])
-}
-
 // A space is in the a-set, so where 14-22 are spaces only 6-13 are asked for the rest of it.
 fn short_name(h: &[u8]) -> bool
     requires { ⌜ length (now h) ≡ 128 ⌝ }
@@ -69,6 +58,17 @@ fn short_name(h: &[u8]) -> bool
         return false;
     }
     all_of(Class::Aset, &h[5..13])
+}
+
+// "6-22 a-set; levels space and 1 have spaces in 14-22."
+pub fn name_right(h: &[u8], c: u64) -> bool
+    requires { ⌜ (length (now h) ≡ 128) × (c ≡ level (now h)) ⌝ }
+    ensures { λ r. ⌜ r ≡ rule6 (now (h .entry)) ⌝ }
+{
+    if (c == 32) | (c == 49) {
+        return short_name(h);
+    }
+    all_of(Class::Aset, &h[5..22])
 }
 
 // "35-39 end, not before start."
@@ -90,19 +90,13 @@ pub fn format_right(c: u64, f: u64) -> bool
     one_of_4(f, 32, 70, 86, 83) & if_so((c == 32) | (c == 49), one_of_2(f, 32, 70))
 }
 
-// "23-27 block length B": the number, if the field is right. A part that reads 40 is not applied while 40 is at fault.
-pub fn block_in(g: Geometry, h: &[u8], c: u64, f: u64, right40: bool) -> Perhaps
-    requires { ⌜ (length (now h) ≡ 128) × (c ≡ level (now h)) × (f ≡ at (now h) 40) × (right40 ≡ rule40 (now h)) ⌝ }
-    ensures { λ r. ⌜ r ≡ perhaps (rule23 g (now (h .entry))) (blockLength (now (h .entry))) ⌝ }
+// "at least 1, 4, 5 for F, V, S"
+fn block_least(f: u64, right40: bool, b: u64) -> bool
+    ensures { λ r. ⌜ r ≡ blockLeast f right40 b ⌝ }
 {
-    let read = decimal_in(&h[22..27]);
-    let Perhaps::Number(b) = read else {
-        return Perhaps::Nothing;
-    };
-    if !block_fits(g, c, f, right40, b) {
-        return Perhaps::Nothing;
-    }
-    Perhaps::Number(b)
+    (!right40 | (!one_of_2(f, 32, 70) | (1 <= b)))
+        & (!right40 | (!one_of_1(f, 86) | (4 <= b)))
+        & (!right40 | (!one_of_1(f, 83) | (5 <= b)))
 }
 
 // "at most D·P; above P a multiple of P; level space at most P; V and S at most 9,999 (house)."
@@ -119,13 +113,19 @@ fn block_fits(g: Geometry, c: u64, f: u64, right40: bool, b: u64) -> bool
         & (!right40 | (!long | (b <= 9999)))
 }
 
-// "at least 1, 4, 5 for F, V, S"
-fn block_least(f: u64, right40: bool, b: u64) -> bool
-    ensures { λ r. ⌜ r ≡ blockLeast f right40 b ⌝ }
+// "23-27 block length B": the number, if the field is right. A part that reads 40 is not applied while 40 is at fault.
+pub fn block_in(g: Geometry, h: &[u8], c: u64, f: u64, right40: bool) -> Perhaps
+    requires { ⌜ (length (now h) ≡ 128) × (c ≡ level (now h)) × (f ≡ at (now h) 40) × (right40 ≡ rule40 (now h)) ⌝ }
+    ensures { λ r. ⌜ r ≡ perhaps (rule23 g (now (h .entry))) (blockLength (now (h .entry))) ⌝ }
 {
-    (!right40 | (!one_of_2(f, 32, 70) | (1 <= b)))
-        & (!right40 | (!one_of_1(f, 86) | (4 <= b)))
-        & (!right40 | (!one_of_1(f, 83) | (5 <= b)))
+    let read = decimal_in(&h[22..27]);
+    let Perhaps::Number(b) = read else {
+        return Perhaps::Nothing;
+    };
+    if !block_fits(g, c, f, right40, b) {
+        return Perhaps::Nothing;
+    }
+    Perhaps::Number(b)
 }
 
 // "63 space, or B for blocked; S needs B; level space needs space." 40 is right.
@@ -146,6 +146,19 @@ fn blank_or(blank: u64, f: &[u8]) -> Perhaps
     decimal_in(f)
 }
 
+// "F: 1 to B, equal to B if unblocked, else a divisor of B; level space R = B. V: 4 to B, RCW counted." A part that reads 63 is not applied while 63 is at
+// fault; 23 and 40 are right.
+fn record_fits(c: u64, f: u64, right63: bool, blocked: bool, b: u64, r: u64) -> bool
+    ensures { λ r′. ⌜ r′ ≡ recordFits c f right63 blocked b r ⌝ }
+{
+    let fixed = one_of_2(f, 32, 70);
+    (!fixed | in_range(1, b, r))
+        & (!right63 | (!(fixed & !blocked) | (r == b)))
+        & (!right63 | (!(fixed & blocked) | is_multiple(b, r)))
+        & (!(c == 32) | (r == b))
+        & (!one_of_1(f, 86) | in_range(4, b, r))
+}
+
 // "54-57 record length R; spaces mean R = B": the number, if the field is right.
 pub fn record_in(g: Geometry, h: &[u8], x: Seen, b: u64, right63: bool) -> Perhaps
     requires { ⌜ (length (now h) ≡ 128) × Held g (now h) x × (b ≡ at (now h) 63) × (right63 ≡ rule63 (now h)) ⌝ }
@@ -161,17 +174,10 @@ pub fn record_in(g: Geometry, h: &[u8], x: Seen, b: u64, right63: bool) -> Perha
     Perhaps::Number(r)
 }
 
-// "F: 1 to B, equal to B if unblocked, else a divisor of B; level space R = B. V: 4 to B, RCW counted." A part that reads 63 is not applied while 63 is at
-// fault; 23 and 40 are right.
-fn record_fits(c: u64, f: u64, right63: bool, blocked: bool, b: u64, r: u64) -> bool
-    ensures { λ r′. ⌜ r′ ≡ recordFits c f right63 blocked b r ⌝ }
+fn unused_fits(f: u64, right63: bool, blocked: bool, b: u64, r: u64, u: u64) -> bool
+    ensures { λ r′. ⌜ r′ ≡ unusedFits f right63 blocked b r u ⌝ }
 {
-    let fixed = one_of_2(f, 32, 70);
-    (!fixed | in_range(1, b, r))
-        & (!right63 | (!(fixed & !blocked) | (r == b)))
-        & (!right63 | (!(fixed & blocked) | is_multiple(b, r)))
-        & (!(c == 32) | (r == b))
-        & (!one_of_1(f, 86) | in_range(4, b, r))
+    (u < b) & (!right63 | (blocked | (u == 0))) & (!one_of_2(f, 32, 70) | is_multiple(u, r))
 }
 
 // "58-62 unused count U, spaces meaning 0, below B; 0 if unblocked; for F a multiple of R." 23, 40 and 54 are right.
@@ -184,12 +190,6 @@ pub fn unused_right(g: Geometry, h: &[u8], x: Seen, b: u64, right63: bool, r: u6
         return false;
     };
     unused_fits(x.format, right63, b == 66, x.block, r, u)
-}
-
-fn unused_fits(f: u64, right63: bool, blocked: bool, b: u64, r: u64, u: u64) -> bool
-    ensures { λ r′. ⌜ r′ ≡ unusedFits f right63 blocked b r u ⌝ }
-{
-    (u < b) & (!right63 | (blocked | (u == 0))) & (!one_of_2(f, 32, 70) | is_multiple(u, r))
 }
 
 // "48-53 spaces or YYMMDD (month 01-12, day 01-31)"

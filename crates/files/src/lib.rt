@@ -59,6 +59,16 @@ fn records_to_block(g: Geometry, h: &[u8]) -> u64
     1
 }
 
+// How many addresses of the extent lie before the data end: all of them, where it is beyond.
+fn before_end(end: u64, first: u64, last: u64, size: u64) -> u64
+    ensures { λ r. ⌜ r ≡ cond (leb end last) (end - first) size ⌝ }
+{
+    if end <= last {
+        return minus(end, first);
+    }
+    size
+}
+
 // The numbers of a label. (Inner: the label of an accepted volume.)
 pub fn numbers_of(g: Geometry, h: &[u8]) -> Numbers
     requires { ⌜ (length (now h) ≡ 128) × (0 < g .P) ⌝ }
@@ -78,16 +88,6 @@ pub fn numbers_of(g: Geometry, h: &[u8]) -> Numbers
         inside: end <= last,
         before: before_end(end, first, last, size),
     }
-}
-
-// How many addresses of the extent lie before the data end: all of them, where it is beyond.
-fn before_end(end: u64, first: u64, last: u64, size: u64) -> u64
-    ensures { λ r. ⌜ r ≡ cond (leb end last) (end - first) size ⌝ }
-{
-    if end <= last {
-        return minus(end, first);
-    }
-    size
 }
 
 // Refusal 18, or the number of blocks that so many good records before the data end make.

@@ -19,7 +19,8 @@ use Rattle.promises.specs.Splices.{filled-length}
 use Rattle.promises.specs.StoreLaws.{store-splice}
 use Rattle.promises.specs.Storing.{store-length, block-length}
 use Rattle.promises.specs.Tiling.{address-room}
-use Rattle.filling.specs.Poured.{poured, Sized, flat}
+use Rattle.layout.specs.Room.{Sized}
+use Rattle.filling.specs.Poured.{poured, flat}
 use Rattle.filling.proofs.PenLaws.{poured-nothing, poured-nowhere, poured-first}
 
 -- "Content left, and physical records' ends, are filled with 00": a filled block is its first record filled, and the rest filled

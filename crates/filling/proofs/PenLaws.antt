@@ -21,7 +21,8 @@ use Rattle.promises.specs.Tiling.{size-data, next-sector, address-room}
 use Rattle.extents.specs.Cursors.{legalOn, legalAt, goodFrom, standing}
 use Rattle.extents.specs.declared.Cursor.{Cursor}
 use Rattle.extents.proofs.CursorLaws.{legal-head, legal-next, defect-none, good-stand, good-none, stand-next, stand-none}
-use Rattle.filling.specs.Poured.{poured, pouredFrom, laidBy, Sized, Placed, Lays, packed, Marked, Turned}
+use Rattle.layout.specs.Room.{Sized}
+use Rattle.filling.specs.Poured.{poured, pouredFrom, laidBy, Placed, Lays, packed, Marked, Turned}
 use Rattle.filling.specs.declared.Pen.{Pen}
 use Rattle.filling.proofs.RunLaws.{splice-none, set-splice, in-part, take-over, drop-over, packed-length, packed-split, least-rest}
 use Rattle.filling.proofs.StandLaws.{record-room, stands-same, stands-first}

@@ -23,7 +23,7 @@ use Rattle.promises.specs.ExtentReads.{SameSector, SameDefect, same-defect, sam
 use Rattle.extents.specs.Cursors.{legalOn, legalAt, standingFrom, standing}
 use Rattle.extents.specs.declared.Cursor.{Cursor}
 use Rattle.extents.proofs.CursorLaws.{first-legal}
-use Rattle.filling.specs.Poured.{Sized}
+use Rattle.layout.specs.Room.{Sized}
 
 -- legal addresses one behind the other do not fall
 rises : (g : Geometry) (lo left : ℕ) (a : Address) → legalOn g left a ≡ true → lo ≤ rank g a

@@ -5,13 +5,14 @@ use mathlib.Core.Path.{_≡_}
 use mathlib.Core.Bool.{true}
 use mathlib.Core.List.{List, [], _∷_, _++_}
 use lib.ListN.{length, take, drop}
-use Rattle.standard.specs.Layout.{kAt, kindOffset, bodyOffset, imageLength}
+use Rattle.standard.specs.Layout.{kAt, kindOffset, bodyOffset}
 use Rattle.standard.specs.Addresses.{ordinal}
 use Rattle.standard.specs.Packing.{fill}
 use Rattle.standard.specs.Characters.{padded}
 use Rattle.standard.specs.Writing.{splice, filledTo}
 use Rattle.standard.specs.declared.Geometry.{Geometry}
 use Rattle.standard.specs.declared.Address.{Address}
+use Rattle.layout.specs.Room.{Sized}
 use Rattle.extents.specs.Cursors.{legalAt, standing}
 use Rattle.extents.specs.declared.Cursor.{Cursor}
 use Rattle.filling.specs.declared.Pen.{Pen}
@@ -33,10 +34,6 @@ pouredFrom g (a ∷ more) i bytes image =
 -- the image, when these bytes are laid from a pen on
 unfoldable pub laidBy : Geometry → List ℕ → Pen → List ℕ → List ℕ
 laidBy g image p bytes = pouredFrom g (standing g image (p .c)) (p .i) bytes image
-
--- "Length: S·I·129 + (L+3)·S·D·(P+1) bytes": what of an accepted image a pen needs
-abbrev pub Sized : Geometry → List ℕ → Type 0
-Sized g image = (length image ≡ imageLength g) × (1 ≤ g .P)
 
 -- a pen in an image: on a record of the extent, at byte i of its body, which stands at `at`
 abbrev pub Placed : Geometry → List ℕ → Pen → Type 0

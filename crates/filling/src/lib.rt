@@ -21,7 +21,8 @@ ghost use Rattle.standard.specs.Addresses.{legal, stepped, ordinal};
 ghost use Rattle.standard.specs.Packing.{fill};
 ghost use Rattle.standard.specs.Writing.{splice};
 ghost use Rattle.extents.specs.Cursors.{legalAt, standing};
-ghost use Rattle.filling.specs.Poured.{poured, laidBy, Sized, Placed, Lays, packed, wordS, Marked, Turned};
+ghost use Rattle.layout.specs.Room.{Sized};
+ghost use Rattle.filling.specs.Poured.{poured, laidBy, Placed, Lays, packed, wordS, Marked, Turned};
 
 // A record that is begun, the number of its bytes that are laid, and where the next byte stands in the image.
 pub struct Pen {

@@ -96,6 +96,12 @@ pub fn find_slot(image: &[u8], slot: u64) -> Found
     unfound()
 }
 
+fn nothing(image: &[u8]) -> &[u8]
+    ensures { λ r. ⌜ now r ≡ [] ⌝ }
+{
+    &image[0..0]
+}
+
 // "A file's label is handed out as the 128 bytes in the image itself, empty if refused (1-13 only)": a part of the lent image.
 pub fn label_named<'a, 'b>(image: &'a [u8], name: &'b [u8]) -> &'a [u8]
     ensures { λ r. ⌜ now r ≡ labelNamed (now (image .entry)) (now (name .entry)) ⌝ }
@@ -122,10 +128,4 @@ pub fn label_in_slot(image: &[u8], slot: u64) -> &[u8]
         return nothing(image);
     }
     label_at(g, image, slot)
-}
-
-fn nothing(image: &[u8]) -> &[u8]
-    ensures { λ r. ⌜ now r ≡ [] ⌝ }
-{
-    &image[0..0]
 }

@@ -23,7 +23,8 @@ ghost use Rattle.promises.specs.Lists.{Every};
 ghost use Rattle.promises.specs.NeededLaws.{leastFor, EachFits};
 ghost use Rattle.labels.specs.Forms.{formatFor};
 ghost use Rattle.extents.specs.Cursors.{legalAt, standing};
-ghost use Rattle.filling.specs.Poured.{poured, flat, Sized, Placed, Lays};
+ghost use Rattle.layout.specs.Room.{Sized};
+ghost use Rattle.filling.specs.Poured.{poured, flat, Placed, Lays};
 ghost use Rattle.laying.specs.Ahead.{layFrom, layRecord, fitsAs, chunks, Tiled, flatLaid, Shaped, Ready, HasRoom, Steps};
 
 // How records are laid one by one: as V, or as S; whether one may stand behind another in its block; B, and the bytes of a block's m physical records.

@@ -30,30 +30,19 @@ ghost use Rattle.standard.specs.Volume.{vol1Rules, hexBetween, volumeK};
 ghost use Rattle.standard.specs.Defects.{isCylinder, cylinderIn, ermapRules, defectIn};
 ghost use Rattle.numbers.specs.Numbers.{bare, defected};
 
-// VOL1: the lowest position at fault, 0 for none.
-pub fn vol1_fault(v: &[u8]) -> u64
-    requires { ⌜ length (now v) ≡ 128 ⌝ }
-    ensures { λ r. ⌜ r ≡ lowestFault (vol1Rules (now (v .entry))) ⌝ }
+// A field of hex digits whose number is in a range: of two digits, of one.
+fn hex_between(low: u64, high: u64, f: &[u8]) -> bool
+    requires { ⌜ length (now f) ≡ 2 ⌝ }
+    ensures { λ r. ⌜ r ≡ hexBetween low high (now (f .entry)) ⌝ }
 {
-    if !same_as(&v[0..4], b"VOL1") {
-        return 1;
-    }
-    if !all_of(Class::Aset, &v[4..10]) {
-        return 5;
-    }
-    if !in_a_set(wide(v[10])) {
-        return 11;
-    }
-    if !all_of(Class::Aset, &v[37..51]) {
-        return 38;
-    }
-    if !one_of_1(wide(v[71]), 65) {
-        return 72;
-    }
-    if !one_of_4(wide(v[75]), 32, 49, 50, 51) {
-        return 76;
-    }
-    vol1_numbers_fault(v)
+    is_hex(wide(f[0])) & is_hex(wide(f[1])) & in_range(low, high, hex_2(f))
+}
+
+fn hex_digit_between(low: u64, high: u64, f: &[u8]) -> bool
+    requires { ⌜ length (now f) ≡ 1 ⌝ }
+    ensures { λ r. ⌜ r ≡ hexBetween low high (now (f .entry)) ⌝ }
+{
+    is_hex(wide(f[0])) & in_range(low, high, hex_1(f))
 }
 
 // The rows of the numbers, from 77 on.
@@ -82,37 +71,42 @@ fn vol1_numbers_fault(v: &[u8]) -> u64
     0
 }
 
-// A field of hex digits whose number is in a range: of two digits, of one.
-fn hex_between(low: u64, high: u64, f: &[u8]) -> bool
-    requires { ⌜ length (now f) ≡ 2 ⌝ }
-    ensures { λ r. ⌜ r ≡ hexBetween low high (now (f .entry)) ⌝ }
+// VOL1: the lowest position at fault, 0 for none.
+pub fn vol1_fault(v: &[u8]) -> u64
+    requires { ⌜ length (now v) ≡ 128 ⌝ }
+    ensures { λ r. ⌜ r ≡ lowestFault (vol1Rules (now (v .entry))) ⌝ }
 {
-    is_hex(wide(f[0])) & is_hex(wide(f[1])) & in_range(low, high, hex_2(f))
-}
-
-fn hex_digit_between(low: u64, high: u64, f: &[u8]) -> bool
-    requires { ⌜ length (now f) ≡ 1 ⌝ }
-    ensures { λ r. ⌜ r ≡ hexBetween low high (now (f .entry)) ⌝ }
-{
-    is_hex(wide(f[0])) & in_range(low, high, hex_1(f))
-}
-
-// The numbers of a VOL1 without a fault.
-pub fn vol1_numbers(v: &[u8]) -> Geometry
-    requires { ⌜ (length (now v) ≡ 128) × (lowestFault (vol1Rules (now v)) ≡ 0) ⌝ }
-    ensures { λ r. ⌜ r ≡ bare (now (v .entry)) ⌝ }
-{
-    let k = kind_in(v);
-    Geometry {
-        L: hex_byte(&v[80..82]),
-        I: hex_byte(&v[82..84]),
-        D: hex_byte(&v[84..86]),
-        k: narrow(k),
-        P: record_size(k),
-        S: narrow(hex_1(&v[88..89])),
-        d1: 0,
-        d2: 0,
+    if !same_as(&v[0..4], b"VOL1") {
+        return 1;
     }
+    if !all_of(Class::Aset, &v[4..10]) {
+        return 5;
+    }
+    if !in_a_set(wide(v[10])) {
+        return 11;
+    }
+    if !all_of(Class::Aset, &v[37..51]) {
+        return 38;
+    }
+    if !one_of_1(wide(v[71]), 65) {
+        return 72;
+    }
+    if !one_of_4(wide(v[75]), 32, 49, 50, 51) {
+        return 76;
+    }
+    vol1_numbers_fault(v)
+}
+
+// "76 space, 1, 2, 3": k.
+fn kind_in(v: &[u8]) -> u64
+    requires { ⌜ length (now v) ≡ 128 ⌝ }
+    ensures { λ r. ⌜ r ≡ volumeK (now (v .entry)) ⌝ }
+{
+    let c = wide(v[75]);
+    if c == 32 {
+        return 0;
+    }
+    digit(c)
 }
 
 fn narrow(n: u64) -> u8
@@ -127,18 +121,6 @@ fn hex_byte(f: &[u8]) -> u8
     ensures { λ r. ⌜ r ≡ hex (now (f .entry)) ⌝ }
 {
     narrow(hex_2(f))
-}
-
-// "76 space, 1, 2, 3": k.
-fn kind_in(v: &[u8]) -> u64
-    requires { ⌜ length (now v) ≡ 128 ⌝ }
-    ensures { λ r. ⌜ r ≡ volumeK (now (v .entry)) ⌝ }
-{
-    let c = wide(v[75]);
-    if c == 32 {
-        return 0;
-    }
-    digit(c)
 }
 
 // "for P = 128, 256, 512, 1024", which is 128·2^k
@@ -158,40 +140,22 @@ fn record_size(k: u64) -> u16
     1024
 }
 
-// ERMAP on a volume of l cylinders: the lowest position at fault, 0 for none.
-pub fn ermap_fault(l: u64, e: &[u8]) -> u64
-    requires { ⌜ length (now e) ≡ 128 ⌝ }
-    ensures { λ r. ⌜ r ≡ lowestFault (ermapRules l (now (e .entry))) ⌝ }
+// The numbers of a VOL1 without a fault.
+pub fn vol1_numbers(v: &[u8]) -> Geometry
+    requires { ⌜ (length (now v) ≡ 128) × (lowestFault (vol1Rules (now v)) ≡ 0) ⌝ }
+    ensures { λ r. ⌜ r ≡ bare (now (v .entry)) ⌝ }
 {
-    if !same_as(&e[0..5], b"ERMAP") {
-        return 1;
+    let k = kind_in(v);
+    Geometry {
+        L: hex_byte(&v[80..82]),
+        I: hex_byte(&v[82..84]),
+        D: hex_byte(&v[84..86]),
+        k: narrow(k),
+        P: record_size(k),
+        S: narrow(hex_1(&v[88..89])),
+        d1: 0,
+        d2: 0,
     }
-    if !first_right(l, &e[6..9]) {
-        return 7;
-    }
-    if !second_right(l, &e[6..9], &e[10..13]) {
-        return 11;
-    }
-    0
-}
-
-// "7-9 spaces, or a cylinder d1 in 01..L and `0`"
-fn first_right(l: u64, f: &[u8]) -> bool
-    requires { ⌜ length (now f) ≡ 3 ⌝ }
-    ensures { λ r. ⌜ r ≡ (spaces (now (f .entry)) || (isCylinder (now (f .entry)) && between 1 l (cylinderIn (now (f .entry))))) ⌝ }
-{
-    all_of(Class::Space, f) | (is_cylinder(f) & in_range(1, l, cylinder_in(f)))
-}
-
-// "11-13 spaces, or d2 and `0`, where d1 is present and d1 < d2 ≤ L+1": f holds d2, e holds d1. (d2 - 1 ≤ L says the last, and cannot wrap.)
-fn second_right(l: u64, e: &[u8], f: &[u8]) -> bool
-    requires { ⌜ (length (now f) ≡ 3) × (length (now e) ≡ 3) ⌝ }
-    ensures { λ r. ⌜ r ≡ (spaces (now (f .entry)) || (isCylinder (now (f .entry)) && not (spaces (now (e .entry))) && ltb (cylinderIn (now (e .entry))) (cylinderIn (now (f .entry))) && leb (cylinderIn (now (f .entry))) (l + 1))) ⌝ }
-{
-    let c = cylinder_in(e);
-    let d = cylinder_in(f);
-    let below = minus(d, 1);
-    all_of(Class::Space, f) | (is_cylinder(f) & !all_of(Class::Space, e) & (c < d) & (below <= l))
 }
 
 // A cylinder "and `0`".
@@ -213,6 +177,52 @@ fn cylinder_in(f: &[u8]) -> u64
     number_2(&f[0..2])
 }
 
+// "7-9 spaces, or a cylinder d1 in 01..L and `0`"
+fn first_right(l: u64, f: &[u8]) -> bool
+    requires { ⌜ length (now f) ≡ 3 ⌝ }
+    ensures { λ r. ⌜ r ≡ (spaces (now (f .entry)) || (isCylinder (now (f .entry)) && between 1 l (cylinderIn (now (f .entry))))) ⌝ }
+{
+    all_of(Class::Space, f) | (is_cylinder(f) & in_range(1, l, cylinder_in(f)))
+}
+
+// "11-13 spaces, or d2 and `0`, where d1 is present and d1 < d2 ≤ L+1": f holds d2, e holds d1. (d2 - 1 ≤ L says the last, and cannot wrap.)
+fn second_right(l: u64, e: &[u8], f: &[u8]) -> bool
+    requires { ⌜ (length (now f) ≡ 3) × (length (now e) ≡ 3) ⌝ }
+    ensures { λ r. ⌜ r ≡ (spaces (now (f .entry)) || (isCylinder (now (f .entry)) && not (spaces (now (e .entry))) && ltb (cylinderIn (now (e .entry))) (cylinderIn (now (f .entry))) && leb (cylinderIn (now (f .entry))) (l + 1))) ⌝ }
+{
+    let c = cylinder_in(e);
+    let d = cylinder_in(f);
+    let below = minus(d, 1);
+    all_of(Class::Space, f) | (is_cylinder(f) & !all_of(Class::Space, e) & (c < d) & (below <= l))
+}
+
+// ERMAP on a volume of l cylinders: the lowest position at fault, 0 for none.
+pub fn ermap_fault(l: u64, e: &[u8]) -> u64
+    requires { ⌜ length (now e) ≡ 128 ⌝ }
+    ensures { λ r. ⌜ r ≡ lowestFault (ermapRules l (now (e .entry))) ⌝ }
+{
+    if !same_as(&e[0..5], b"ERMAP") {
+        return 1;
+    }
+    if !first_right(l, &e[6..9]) {
+        return 7;
+    }
+    if !second_right(l, &e[6..9], &e[10..13]) {
+        return 11;
+    }
+    0
+}
+
+fn defect_in(f: &[u8]) -> u8
+    requires { ⌜ (length (now f) ≡ 3) × (defectIn (now f) < 256) ⌝ }
+    ensures { λ r. ⌜ r ≡ defectIn (now (f .entry)) ⌝ }
+{
+    if all_of(Class::Space, f) {
+        return 0;
+    }
+    narrow(cylinder_in(f))
+}
+
 // The numbers with the defective cylinders of an ERMAP without a fault.
 pub fn with_defects(g: Geometry, e: &[u8]) -> Geometry
     requires { ⌜ (length (now e) ≡ 128) × (lowestFault (ermapRules (g .L) (now e)) ≡ 0) ⌝ }
@@ -228,14 +238,4 @@ pub fn with_defects(g: Geometry, e: &[u8]) -> Geometry
         d1: defect_in(&e[6..9]),
         d2: defect_in(&e[10..13]),
     }
-}
-
-fn defect_in(f: &[u8]) -> u8
-    requires { ⌜ (length (now f) ≡ 3) × (defectIn (now f) < 256) ⌝ }
-    ensures { λ r. ⌜ r ≡ defectIn (now (f .entry)) ⌝ }
-{
-    if all_of(Class::Space, f) {
-        return 0;
-    }
-    narrow(cylinder_in(f))
 }

@@ -15,7 +15,8 @@ ghost use lib.ListN.{length, take};
 ghost use Rattle.standard.specs.Pieces.{mustFill, lookV, lookS, lookIn};
 ghost use Rattle.labels.specs.Forms.{formatFor};
 ghost use Rattle.extents.specs.Cursors.{legalAt};
-ghost use Rattle.blocks.specs.Streams.{Fits, stream};
+ghost use Rattle.layout.specs.Room.{Sized};
+ghost use Rattle.blocks.specs.Streams.{stream};
 ghost use Rattle.pieces.specs.Looks.{headOf, seenOf, fourRead, partF, partV, partS};
 
 // What stands there: fill alone, or nothing; a rule is broken; a record or segment, by its `0`-`3` as a number (0 for a record of F or V, which is a whole) and
@@ -51,7 +52,7 @@ fn four_digits(a: u64, b: u64, c: u64, d: u64) -> Perhaps
 
 // "the rest must be fill"
 fn fill_only(g: Geometry, image: &[u8], c: Cursor, i: u64, n: u64) -> Seen
-    requires { ⌜ (Fits g (now image)) × (legalAt g c ≡ true) × (i < g .P) × (n < 65536) ⌝ }
+    requires { ⌜ (Sized g (now image)) × (legalAt g c ≡ true) × (i < g .P) × (n < 65536) ⌝ }
     ensures { λ x. ⌜ x ≡ seenOf (mustFill (take n (stream g (now (image .entry)) c i))) ⌝ }
 {
     if all_fill(g, image, c, i, n) {
@@ -106,7 +107,7 @@ fn look_v(
     r: u64,
     blocked: bool,
 ) -> Seen
-    requires { ⌜ (Fits g (now image)) × (legalAt g c ≡ true) × (i < g .P) × (n < 65536) × (n ≤ length (stream g (now image) c i)) ⌝ }
+    requires { ⌜ (Sized g (now image)) × (legalAt g c ≡ true) × (i < g .P) × (n < 65536) × (n ≤ length (stream g (now image) c i)) ⌝ }
     ensures { λ x. ⌜ x ≡ seenOf (lookV r blocked o (take n (stream g (now (image .entry)) c i))) ⌝ }
 {
     if n < 4 {
@@ -147,7 +148,7 @@ fn sized_s(n: u64, c: u64, size: Perhaps) -> Seen
 
 // The same in S, with 5.
 fn look_s(g: Geometry, image: &[u8], c: Cursor, i: u64, n: u64) -> Seen
-    requires { ⌜ (Fits g (now image)) × (legalAt g c ≡ true) × (i < g .P) × (n < 65536) × (n ≤ length (stream g (now image) c i)) ⌝ }
+    requires { ⌜ (Sized g (now image)) × (legalAt g c ≡ true) × (i < g .P) × (n < 65536) × (n ≤ length (stream g (now image) c i)) ⌝ }
     ensures { λ x. ⌜ x ≡ seenOf (lookS (take n (stream g (now (image .entry)) c i))) ⌝ }
 {
     if n < 5 {
@@ -172,7 +173,7 @@ pub fn look(
     r: u64,
     blocked: bool,
 ) -> Seen
-    requires { ⌜ (Fits g (now image)) × (legalAt g c ≡ true) × (i < g .P) × (n < 65536) × (n ≤ length (stream g (now image) c i)) ⌝ }
+    requires { ⌜ (Sized g (now image)) × (legalAt g c ≡ true) × (i < g .P) × (n < 65536) × (n ≤ length (stream g (now image) c i)) ⌝ }
     ensures { λ x. ⌜ x ≡ seenOf (lookIn (formatFor form) r blocked o (take n (stream g (now (image .entry)) c i))) ⌝ }
 {
     match form {

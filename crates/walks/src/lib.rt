@@ -72,6 +72,16 @@ fn joined(limit: u64, n: u64, first: u64, completes: bool) -> Move
     Move::Carry(Stand::Within(n, first))
 }
 
+// "a 2 is dropped, unmeasured by R, and the mark stays; a 3 is dropped likewise and reading goes on without it."
+fn dropped(digit: u64) -> Move
+    ensures { λ r. ⌜ r ≡ droppedBy digit ⌝ }
+{
+    if digit == 2 {
+        return Move::Carry(Stand::Marked);
+    }
+    Move::Carry(Stand::Fresh)
+}
+
 // "the next segment must be 2 or 3; otherwise it must be 0 or 1."
 fn meet(limit: u64, s: Stand, digit: u64, n: u64, block: u64) -> Move
     requires { ⌜ (lengthOf s < 9223372036854775808) × (n < 4294967296) ⌝ }
@@ -97,16 +107,6 @@ fn meet(limit: u64, s: Stand, digit: u64, n: u64, block: u64) -> Move
             joined(limit, length + n, first, !(digit == 2))
         }
     }
-}
-
-// "a 2 is dropped, unmeasured by R, and the mark stays; a 3 is dropped likewise and reading goes on without it."
-fn dropped(digit: u64) -> Move
-    ensures { λ r. ⌜ r ≡ droppedBy digit ⌝ }
-{
-    if digit == 2 {
-        return Move::Carry(Stand::Marked);
-    }
-    Move::Carry(Stand::Fresh)
 }
 
 // A reader on its way: a place of the file, the first record of its block, and where the reader stands.

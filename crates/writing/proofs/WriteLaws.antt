@@ -38,13 +38,13 @@ use Rattle.promises.specs.NeededLaws.{EachFits, each-fits}
 use Rattle.promises.specs.ExtentAddresses.{good-legal}
 use Rattle.labels.specs.declared.Form.the-variants.{Fixed}
 use Rattle.labels.specs.Forms.{formIn, formatFor, format-back}
-use Rattle.layout.specs.Room.{Room}
+use Rattle.layout.specs.Room.{Room, Sized}
 use Rattle.extents.specs.Cursors.{legalAt, goodFrom, standing}
 use Rattle.extents.specs.declared.Cursor.{Cursor}
 use Rattle.volume.proofs.NumberLaws.{slotted-of}
 use Rattle.finding.proofs.FindLaws.{room-there}
 use Rattle.files.proofs.Blocks.{extent-on}
-use Rattle.filling.specs.Poured.{poured, flat, Sized}
+use Rattle.filling.specs.Poured.{poured, flat}
 use Rattle.laying.specs.Ahead.{Tiled}
 use Rattle.filling.proofs.BlockLaws.{pour-blocks}
 use Rattle.ending.proofs.EndSizes.{end-small}
