@@ -196,7 +196,7 @@ carried galz-salvage r = r
 carried galz-write r = cappedWritten r
 
 -- The number taken apart is the answer of the call behind the export, and the lent bytes are as that call leaves them: all that is said of the calls, here and in
--- Judging, Reading and Writing, holds of it.
+-- Judges, Readers and Writers, holds of it.
 pub number-carries : (e : Export) (i : contract (callOf e) .Input) (n : ℕ) (after : List ℕ) → Allows (exported e) i n after
     → (back e n ≡ carried e (contract (callOf e) .result i)) × (after ≡ contract (callOf e) .left i)
 number-carries galz-judge i n after a = (ap judgedBack (a .0) ∙ judge-exact i, a .1)

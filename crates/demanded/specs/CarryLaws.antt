@@ -1,4 +1,4 @@
--- What Writing rests on beside the promises. The carry of the data end: in a list of addresses that rises, the next address is the next of the list, where it
+-- What Writers rests on beside the promises. The carry of the data end: in a list of addresses that rises, the next address is the next of the list, where it
 -- is one of the list at all; a record of the extent that is not defective is a good one. A list that has a record needs a block, and of a file without a block
 -- no record is heard.
 -- Assumes nothing.

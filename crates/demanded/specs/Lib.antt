@@ -2,9 +2,9 @@
 pub mod Calls
 pub mod Called
 -- Of functions that judge, find and count.
-pub mod Judging
+pub mod Judges
 -- Of functions that read.
-pub mod Reading
+pub mod Readers
 -- Of functions that write, and what that rests on.
 pub mod CarryLaws
-pub mod Writing
+pub mod Writers

@@ -1,4 +1,4 @@
--- DEMAND 2 OF FUNCTIONS THAT WRITE, for a reader who proves nothing. As Reading does for those that read: the contract says no more than that the answer is
+-- DEMAND 2 OF FUNCTIONS THAT WRITE, for a reader who proves nothing. As Readers does for those that read: the contract says no more than that the answer is
 -- `written`, and the image afterwards `imageAfter`; here the promises are said of any function that meets it, whatever its code, and the wrong programs that
 -- document 01 names are shown to meet it not. What is read of an image afterwards is read by any function that meets the contract of reading, what is counted
 -- or found by any that meets that. The lines behind `=` only name the proof. `A → B`: if A then B; `A × B`: both; `A ⊎ B`: one of them; `A → ⊥`: not A.
@@ -52,7 +52,7 @@ use Rattle.promises.specs.Demands.{write-list, write-counts, write-reads-back, 
 use Rattle.promises.specs.Instances.{demo, demoVolume, demoBodies, demoLengths, demo-accepted, demo-heard}
 use Rattle.demanded.specs.Calls.{Response, Meets, ByName, InSlot, Given, named, inSlot, ask, give, judge, find, find-slot, free, count, read, write, contract}
 use Rattle.demanded.specs.Called.{alike, answered, refuses-exactly}
-use Rattle.demanded.specs.Reading.{Reader, Reads, followed, followed-is, SalvagedAs, salvager-gives}
+use Rattle.demanded.specs.Readers.{Reader, Reads, followed, followed-is, SalvagedAs, salvager-gives}
 use Rattle.demanded.specs.CarryLaws.{last-between, end-behind-last, defects-between, goes-on-inside, goes-on-end, needed-some, needed-none, no-record-heard}
 
 -- A FUNCTION THAT WRITES, and that it meets the contract
