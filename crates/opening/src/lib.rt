@@ -182,14 +182,6 @@ fn block_start(image: &[u8], f: FileNumbers, b: u64) -> Cursor
     nth_good(f.g, image, f.first, f.whole, b * f.m)
 }
 
-// From a cursor on block b to the next block.
-pub fn next_start(image: &[u8], f: FileNumbers, b: u64, c: Cursor) -> Cursor
-    requires { ⌜ (Opened (now image) f) × (Seated (now image) f b c) ⌝ }
-    ensures { λ r. ⌜ Seated (now (image .entry)) f (b + 1) r ⌝ }
-{
-    skip_good(f.g, image, c, f.m)
-}
-
 // A block of the file, and a cursor on its first record.
 pub struct Seat {
     pub block: u64,

@@ -2,12 +2,13 @@
 -- Assumes nothing.
 use Prim.Native.Nat.{ℕ, _+_, _-_, _<_, _≤_}
 use mathlib.Core.Path.{_≡_, refl, sym, ap, subst, _∙_}
-use mathlib.Core.Bool.{Bool}
+use mathlib.Core.Bool.{Bool, true, false}
 use mathlib.Core.List.{List, [], _++_}
 use lib.ListN.{length, take, drop, replicate, length-replicate, length-append, length-take, drop-of-length-le, take-append-drop}
 use lib.Seq.{paste, length-paste, take-paste, drop-paste, drop-drop}
 use native.Mathlib.Omega.{arith}
 use Rattle.standard.specs.Pieces.{ahead}
+use Rattle.standard.specs.Files.{anyFailed}
 use Rattle.standard.specs.Records.{State, fresh, marked, within, Met, took, gapped, ended, refused, atEnd}
 use Rattle.standard.specs.Reading.{laidOver}
 use Rattle.standard.specs.declared.Place.{Place}
@@ -17,10 +18,11 @@ use Rattle.opening.specs.declared.FileNumbers.{FileNumbers}
 use Rattle.opening.proofs.OpenedLaws.{facts}
 use Rattle.labels.specs.declared.Form.{Form}
 use Rattle.labels.specs.declared.Form.the-variants.{Fixed, Variable, Spanned}
+use Rattle.extents.specs.Cursors.{standing}
 use Rattle.blocks.specs.Streams.{stream}
 use Rattle.pieces.specs.Looks.{headOf}
-use Rattle.walks.specs.Stands.{lengthOf, stateWith, metWith, measured, lengthIn, endedBy}
-use Rattle.walks.specs.Walks.{modeOf, metFrom, Walking, bodyAhead, Reached, grown, toGo, ReachedBy, Turned}
+use Rattle.walks.specs.Stands.{lengthOf, stateWith, metWith, measured, lengthIn, endedBy, lostBy}
+use Rattle.walks.specs.Walks.{modeOf, metFrom, Walking, Entered, NotLost, bodyAhead, Reached, grown, toGo, ReachedBy, Turned}
 use Rattle.walks.specs.declared.Stand.{Stand}
 use Rattle.walks.specs.declared.Stand.the-variants.{Fresh, Marked, Within}
 use Rattle.walks.specs.declared.Measured.{Measured}
@@ -29,7 +31,7 @@ use Rattle.walks.specs.declared.Walk.{Walk}
 use Rattle.walks.specs.declared.Turn.{Turn}
 use Rattle.walks.specs.declared.Turn.the-variants.{Done, On}
 use Rattle.walks.proofs.TurnLaws.{turn-end}
-use Rattle.walks.proofs.WalkLaws.{stream-from}
+use Rattle.walks.proofs.WalkLaws.{stream-from, turned-lost}
 use Rattle.reading.specs.Answers.{Measures, Room, bodyIn}
 use Rattle.reading.proofs.AnswerLaws.{alike, grows}
 
@@ -255,6 +257,24 @@ module _ (image : List ℕ) (f : FileNumbers) (s : Bool) where
         ∙ (ap (λ (xs : List ℕ). xs ++ drop n (paste out a (bodyAhead image f w) (n - a))) (more-front w out n d reach)
         ∙ (ap (λ (xs : List ℕ). body ++ xs) (more-behind w out n d reach ∙ ap (λ (i : ℕ). drop i before) (sym size))
         ∙ ap (λ (xs : List ℕ). xs ++ drop (length xs) before) (sym is))))
+
+    -- a reader that is at a lost block meets no record
+    no-lost : (t : Bool) (b : ℕ) (n : ℕ) (body : List ℕ) → Room n (metWith body (lostBy t b)) → ⊥
+    no-lost true b n body h = h
+    no-lost false b n body h = h
+
+    pub never-lost : (w : Walk) (out : List ℕ) → Entered image f w → Delivering w out → Room (length before) (metFrom image f s from []) → NotLost image f w
+    never-lost w out p d room = go (anyFailed (f .g) image (take (f .m) (standing (f .g) image (w .at)))) refl
+      where
+        front : List ℕ
+        front = take (lengthOf (w .stand)) out
+
+        go : (z : Bool) → anyFailed (f .g) image (take (f .m) (standing (f .g) image (w .at))) ≡ z → NotLost image f w
+        go false e = e
+        go true e =
+            let b = w .place .block in
+            let t = turned-lost image f w p s (lostBy s b) e refl in
+            absurd (no-lost s b (length before) (grown image f w front (lengthIn (lostBy s b))) (subst (Room (length before)) (sym (d .same) ∙ t .0 front (front-long w out d)) room))
 
     pub never-ends : Opened image f → (w : Walk) (out : List ℕ) → f .count ≤ w .place .block → Delivering w out → Room (length before) (metFrom image f s from []) → ⊥
     never-ends o w out l d room =

@@ -24,6 +24,7 @@ use walks::Walk;
 use walks::at_end;
 use walks::length_of;
 use walks::take_turn;
+use walks::turn_in;
 ghost use mathlib.Core.Path.{_≡_};
 ghost use mathlib.Core.Bool.{true, false};
 ghost use mathlib.Core.List.{[]};
@@ -83,14 +84,14 @@ fn put(image: &[u8], f: FileNumbers, w: Walk, to: u64, out: &mut [u8])
     copy(f.g, image, s.c, s.i, out, so_far, to - so_far)
 }
 
-// Lays into the output the record that was measured: the same walk again.
+// Lays into the output the record that was measured: the same walk again, but for the question whether a block is lost, which measuring has answered.
 fn deliver(image: &[u8], f: FileNumbers, salvage: bool, from: Walk, out: &mut [u8])
     requires { ⌜ (Opened (now image) f) × (Walking (now image) f from) × (lengthOf (from .stand) ≡ 0) × (Room (length (now out)) (metFrom (now image) f salvage from [])) ⌝ }
     ensures { λ r. ⌜ now (out .exit) ≡ laidOver (bodyIn (metFrom (now (image .entry)) f salvage from [])) (now (out .entry)) ⌝ }
 {
     let mut w = from;
     while w.place.block < f.count {
-        let t = take_turn(image, f, salvage, w);
+        let t = turn_in(image, f, salvage, w);
         match t {
             Turn::Done(x) => {
                 put(image, f, w, length_in(x), out);

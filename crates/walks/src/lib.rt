@@ -6,8 +6,9 @@ use extents::Cursor;
 use fields::minus;
 use labels::Form;
 use opening::FileNumbers;
+use opening::Seat;
 use opening::content_size;
-use opening::next_start;
+use opening::seat_at;
 use pieces::Seen;
 use pieces::head;
 use pieces::look;
@@ -23,7 +24,7 @@ ghost use Rattle.standard.specs.Records.{overIn, refuse21};
 ghost use Rattle.labels.specs.Forms.{formatFor};
 ghost use Rattle.pieces.specs.Looks.{headOf};
 ghost use Rattle.walks.specs.Stands.{lengthOf, limitIn, joinedBy, droppedBy, meetBy, endedBy, lostBy};
-ghost use Rattle.walks.specs.Walks.{Walking, Entered, restAt, seenAt, PartAt, limitBy, Turned};
+ghost use Rattle.walks.specs.Walks.{Walking, Entered, restAt, seenAt, NotLost, PartAt, limitBy, Turned};
 
 // Where a reader stands: between records; at a block's start after a gap; inside a spanned record, with the length of its body so far and the block where
 // it began.
@@ -186,12 +187,15 @@ fn seen(image: &[u8], f: FileNumbers, w: Walk) -> Seen
     look(f.g, image, s.c, s.i, n, offset, form, f.R, f.blocked)
 }
 
-// "After 1 or 2 the rest of the block is fill": from an offset of the block on.
+// "After 1 or 2 the rest of the block is fill": from an offset of the block on. Most often nothing is left, and then nothing is walked to.
 fn rest_is_fill(image: &[u8], f: FileNumbers, w: Walk, from: u64) -> bool
     requires { ⌜ (Entered (now image) f w) × (from < 65536) ⌝ }
     ensures { λ r. ⌜ r ≡ isFill (restAt (now (image .entry)) f w from) ⌝ }
 {
     let n = minus(content_size(f, w.place.block), from);
+    if n == 0 {
+        return true;
+    }
     let s = onward(f.g, image, w.at, 0, from);
     all_fill(f.g, image, s.c, s.i, n)
 }
@@ -202,9 +206,16 @@ fn next(image: &[u8], f: FileNumbers, w: Walk, stand: Stand) -> Walk
     ensures { λ r. ⌜ (Walking (now (image .entry)) f r) × (r .place .block ≡ w .place .block + 1) × (r .place .offset ≡ 0) × (r .stand ≡ stand) ⌝ }
 {
     let place = w.place;
+    let at = w.at;
+    let here = Seat {
+        block: place.block,
+        at: at,
+    };
+    let there = seat_at(image, f, here, place.block + 1);
+    let start = there.at;
     Walk {
         place: place.next_block(f.count),
-        at: next_start(image, f, place.block, w.at),
+        at: start,
         stand: stand,
     }
 }
@@ -264,14 +275,11 @@ fn part_met(image: &[u8], f: FileNumbers, salvage: bool, w: Walk, digit: u64, si
     }
 }
 
-// One turn of a reader that is in a block of the file.
-pub fn take_turn(image: &[u8], f: FileNumbers, salvage: bool, w: Walk) -> Turn
-    requires { ⌜ Entered (now image) f w ⌝ }
+// One turn of a reader that is in a block of the file which is not lost.
+pub fn turn_in(image: &[u8], f: FileNumbers, salvage: bool, w: Walk) -> Turn
+    requires { ⌜ (Entered (now image) f w) × (NotLost (now image) f w) ⌝ }
     ensures { λ r. ⌜ Turned (now (image .entry)) f salvage w r ⌝ }
 {
-    if any_failed(f.g, image, w.at, f.m) {
-        return Turn::Done(at_lost(salvage, w.place, f.count));
-    }
     let place = w.place;
     let stand = w.stand;
     let met = seen(image, f, w);
@@ -280,4 +288,15 @@ pub fn take_turn(image: &[u8], f: FileNumbers, salvage: bool, w: Walk) -> Turn
         Seen::Broken => Turn::Done(broken_at(place.block, place.offset)),
         Seen::Part(digit, size) => part_met(image, f, salvage, w, digit, size),
     }
+}
+
+// One turn of a reader that is in a block of the file.
+pub fn take_turn(image: &[u8], f: FileNumbers, salvage: bool, w: Walk) -> Turn
+    requires { ⌜ Entered (now image) f w ⌝ }
+    ensures { λ r. ⌜ Turned (now (image .entry)) f salvage w r ⌝ }
+{
+    if any_failed(f.g, image, w.at, f.m) {
+        return Turn::Done(at_lost(salvage, w.place, f.count));
+    }
+    turn_in(image, f, salvage, w)
 }

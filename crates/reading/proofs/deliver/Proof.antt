@@ -8,8 +8,8 @@ use borrow.Author.Needs.{needs}
 use lib.ListN.{length}
 use lib.Seq.{paste}
 use Rattle.walks.specs.Stands.{lengthOf}
-use Rattle.walks.specs.Walks.{bodyAhead, Reached, toGo}
-use Rattle.reading.proofs.MeetingLaws.{Delivering, delivering-start, on-room, delivering-on, done-room, delivered-done, never-ends, turned-less}
+use Rattle.walks.specs.Walks.{Entered, bodyAhead, Reached, toGo}
+use Rattle.reading.proofs.MeetingLaws.{Delivering, delivering-start, on-room, delivering-on, done-room, delivered-done, never-lost, never-ends, turned-less}
 use Rattle.reading.proofs.deliver.Statement.{statement}
 use Rattle.reading.proofs.deliver.Tie as tie
 
@@ -25,12 +25,13 @@ loop-holds c =
     let p = c .before .before .pre in
     delivering-start (now (x .image)) (x .f) (x .salvage) (x .from) (now (x .out)) (p .2) (p .1)
 
-take-turn-requires : tie.Need-take-turn-requires Inv-loop μ-loop
-take-turn-requires c κs =
+turn-in-requires : tie.Need-turn-in-requires Inv-loop μ-loop
+turn-in-requires c κs =
     let x = c .before .before .before .before .before .before .args in
     let p = c .before .before .before .before .before .before .pre in
     let l = c .before .before .before .loop in
-    (p .0, l .inv .walking, omega arith)
+    let e : Entered (now (x .image)) (x .f) (l .w) = (p .0, l .inv .walking, omega arith) in
+    (e, never-lost (now (x .image)) (x .f) (x .salvage) (x .from) (now (x .out)) (l .w) (l .out) e (l .inv) (p .3))
 
 enum-known-t : tie.Need-enum-known-t Inv-loop μ-loop
 enum-known-t c = search needs
@@ -48,7 +49,7 @@ put-requires c κs =
     let l = c9 .loop in
     let r =
     subst (λ (n : ℕ). (Reached (now (x .image)) (x .f) (l .w) n) × (n ≤ length (l .out))) (sym (c .before .length-in .ensures))
-    (done-room (now (x .image)) (x .f) (x .salvage) (x .from) (now (x .out)) (l .w) (l .out) _ _ (c5 .take-turn .ensures) (c .before .before .before .t .given .1) (l .inv) (p .3)) in
+    (done-room (now (x .image)) (x .f) (x .salvage) (x .from) (now (x .out)) (l .w) (l .out) _ _ (c5 .turn-in .ensures) (c .before .before .before .t .given .1) (l .inv) (p .3)) in
     (p .0, l .inv .walking, r .0, r .1)
 
 same-length : tie.Need-same-length Inv-loop μ-loop
@@ -63,7 +64,7 @@ returns c =
     let x = c15 .args in
     let p = c15 .pre in
     let l = c12 .loop in
-    delivered-done (now (x .image)) (x .f) (x .salvage) (x .from) (now (x .out)) (l .w) (l .out) _ _ _ (c8 .take-turn .ensures) (c6 .t .given .1) (l .inv) (p .3)
+    delivered-done (now (x .image)) (x .f) (x .salvage) (x .from) (now (x .out)) (l .w) (l .out) _ _ _ (c8 .turn-in .ensures) (c6 .t .given .1) (l .inv) (p .3)
     (c .before .before .put .ensures
     ∙ ap (λ (n : ℕ). paste (l .out) (lengthOf (l .w .stand)) (bodyAhead (now (x .image)) (x .f) (l .w)) (n - lengthOf (l .w .stand))) (c .before .before .before .before .length-in .ensures))
 
@@ -83,7 +84,7 @@ put-requires-2 c κs =
     let l = c9 .loop in
     let r =
     subst (λ (n : ℕ). (Reached (now (x .image)) (x .f) (l .w) n) × (n ≤ length (l .out))) (sym (c .before .length-of .ensures))
-    (on-room (now (x .image)) (x .f) (x .salvage) (x .from) (now (x .out)) (l .w) _ (l .out) _ (c5 .take-turn .ensures) (c .before .before .before .t2 .given .1) (l .inv) (p .3)) in
+    (on-room (now (x .image)) (x .f) (x .salvage) (x .from) (now (x .out)) (l .w) _ (l .out) _ (c5 .turn-in .ensures) (c .before .before .before .t2 .given .1) (l .inv) (p .3)) in
     (p .0, l .inv .walking, r .0, r .1)
 
 loop-less : tie.Need-loop-less Inv-loop μ-loop
@@ -95,7 +96,7 @@ loop-less c =
     let x = c15 .args in
     let p = c15 .pre in
     let l = c12 .loop in
-    turned-less (now (x .image)) (x .f) (x .salvage) (l .w) _ _ (c8 .take-turn .ensures) (c6 .t2 .given .1) .1
+    turned-less (now (x .image)) (x .f) (x .salvage) (l .w) _ _ (c8 .turn-in .ensures) (c6 .t2 .given .1) .1
 
 loop-again : tie.Need-loop-again Inv-loop μ-loop
 loop-again c =
@@ -106,8 +107,8 @@ loop-again c =
     let x = c15 .args in
     let p = c15 .pre in
     let l = c12 .loop in
-    delivering-on (now (x .image)) (x .f) (x .salvage) (x .from) (now (x .out)) (l .w) _ (l .out) _ _ (c8 .take-turn .ensures) (c6 .t2 .given .1) (l .inv)
-    (on-room (now (x .image)) (x .f) (x .salvage) (x .from) (now (x .out)) (l .w) _ (l .out) _ (c8 .take-turn .ensures) (c6 .t2 .given .1) (l .inv) (p .3) .1)
+    delivering-on (now (x .image)) (x .f) (x .salvage) (x .from) (now (x .out)) (l .w) _ (l .out) _ _ (c8 .turn-in .ensures) (c6 .t2 .given .1) (l .inv)
+    (on-room (now (x .image)) (x .f) (x .salvage) (x .from) (now (x .out)) (l .w) _ (l .out) _ (c8 .turn-in .ensures) (c6 .t2 .given .1) (l .inv) (p .3) .1)
     (c .before .before .put2 .ensures
     ∙ ap (λ (n : ℕ). paste (l .out) (lengthOf (l .w .stand)) (bodyAhead (now (x .image)) (x .f) (l .w)) (n - lengthOf (l .w .stand))) (c .before .before .before .before .length-of .ensures))
 
@@ -129,7 +130,7 @@ deliver-spec =
     Inv-loop
     μ-loop
     loop-holds
-    take-turn-requires
+    turn-in-requires
     enum-known-t
     length-in-requires
     put-requires
