@@ -2,12 +2,14 @@
 // on is a list of bytes, and the functions here read it, pass over it, copy it, and ask whether it is fill. Everything here is inner: the layers above call it on
 // extents of an accepted volume.
 use extents::Cursor;
+use extents::is_defective;
 use extents::next_good;
+use extents::one_unless;
 use extents::skip_good;
 use fields::wide16;
 use layout::check_failed;
-use layout::kind_offset;
-use layout::ordinal_of;
+use layout::kind_after;
+use layout::kind_of;
 use standard::Geometry;
 use standard::byte_at;
 use standard::wide;
@@ -16,11 +18,11 @@ ghost use mathlib.Core.Bool.{true};
 ghost use Prim.Native.Nat.{_+_, _<_, _≤_};
 ghost use lib.ListN.{length, getD, take, drop};
 ghost use lib.Seq.{paste};
-ghost use Rattle.standard.specs.Layout.{bodyOffset};
+ghost use Rattle.standard.specs.Layout.{kindOffset, bodyOffset};
 ghost use Rattle.standard.specs.Addresses.{ordinal};
 ghost use Rattle.standard.specs.Pieces.{isFill};
 ghost use Rattle.standard.specs.Files.{anyFailed};
-ghost use Rattle.extents.specs.Cursors.{legalAt, standing};
+ghost use Rattle.extents.specs.Cursors.{legalAt, goodFrom, standing};
 ghost use Rattle.layout.specs.Room.{Sized};
 ghost use Rattle.blocks.specs.Streams.{stream, fiveOf};
 
@@ -44,7 +46,7 @@ fn byte_offset(g: Geometry, c: Cursor, i: u64) -> u64
     requires { ⌜ (legalAt g c ≡ true) × (1 ≤ c .left) × (i < 65536) ⌝ }
     ensures { λ r. ⌜ (r ≡ bodyOffset g (ordinal g (c .at)) + i) × (r < 1125899906842624) ⌝ }
 {
-    kind_offset(g, ordinal_of(g, c.at)) + 1 + i
+    kind_of(g, c.at) + 1 + i
 }
 
 // The byte at a spot, 00 behind the last record.
@@ -204,36 +206,52 @@ pub fn copy(
     copy_run(image, byte_offset(g, c, i), out, at, n);
 }
 
-// Whether the record under a cursor is check-failed; there may be none.
-fn failed_under(g: Geometry, image: &[u8], c: Cursor) -> bool
-    requires { ⌜ legalAt g c ≡ true ⌝ }
-    ensures { λ r. ⌜ r ≡ anyFailed g (now (image .entry)) (take 1 (standing g (now (image .entry)) c)) ⌝ }
+// Whether one of the next m good records is check-failed, from an address on whose kind stands at `start`. One look at each record, and none behind the m-th.
+fn failed_among(g: Geometry, image: &[u8], from: Cursor, start: u64, m: u64) -> bool
+    requires { ⌜ (legalAt g from ≡ true) × (start ≡ kindOffset g (ordinal g (from .at))) ⌝ }
+    ensures { λ r. ⌜ r ≡ anyFailed g (now (image .entry)) (take m (goodFrom g (now (image .entry)) (from .left) (from .at))) ⌝ }
 {
-    if c.left == 0 {
-        return false;
+    let mut at = from.at;
+    let mut left = from.left;
+    let mut o = start;
+    let mut n = m;
+    while (0 < n) & (0 < left) {
+        if check_failed(g, image, at, o) {
+            return true;
+        }
+        n -= one_unless(is_defective(g, image, at, o));
+        let next = at.step(g);
+        o = kind_after(g, at, next, o);
+        at = next;
+        left -= 1;
     }
-    check_failed(g, image, ordinal_of(g, c.at))
+    false
 }
 
-// "A lost block contains a check-failed record." Whether one of the next m good records is; none is walked to behind the m-th.
+// "A lost block contains a check-failed record." The record under a cursor, which is good, and the m - 1 good ones behind it.
 pub fn any_failed(g: Geometry, image: &[u8], from: Cursor, m: u64) -> bool
     requires { ⌜ legalAt g from ≡ true ⌝ }
     ensures { λ r. ⌜ r ≡ anyFailed g (now (image .entry)) (take m (standing g (now (image .entry)) from)) ⌝ }
 {
-    if m == 0 {
+    let first = from.at;
+    let left = from.left;
+    if (m == 0) | (left == 0) {
         return false;
     }
-    let mut c = from;
-    let mut n = m;
-    while 1 < n {
-        if c.left == 0 {
-            return false;
-        }
-        if failed_under(g, image, c) {
-            return true;
-        }
-        c = next_good(g, image, c);
-        n -= 1;
+    let start = kind_of(g, first);
+    if check_failed(g, image, first, start) {
+        return true;
     }
-    failed_under(g, image, c)
+    let next = first.step(g);
+    let o = kind_after(g, first, next, start);
+    failed_among(
+        g,
+        image,
+        Cursor {
+            at: next,
+            left: left - 1,
+        },
+        o,
+        m - 1,
+    )
 }

@@ -15,16 +15,9 @@ use Rattle.standard.specs.Addresses.{legal, stepped, ordinal}
 use Rattle.standard.specs.Files.{addressesFrom, goodAmong, isDefective, isWrong}
 use Rattle.standard.specs.declared.Geometry.{Geometry}
 use Rattle.standard.specs.declared.Address.{Address}
-use Rattle.promises.specs.AddressLaws.{parts}
 use Rattle.promises.specs.Basics.{by-test, and-l, and-r}
 use Rattle.extents.specs.Cursors.{legalOn, goodFrom, standing}
 use Rattle.extents.specs.declared.Cursor.{Cursor}
-
-pub legal-small : (g : Geometry) (a : Address) → g .L < 256 → g .S < 256 → g .D < 256 → legal g a ≡ true
-    → (1 ≤ a .cylinder) × (a .cylinder < 3000) × (a .side < 256) × (1 ≤ a .sector) × (a .sector < 3000)
-legal-small g a l s d h =
-    let p = parts g a h in
-    (p .cylinder-low, omega (arith, p .cylinder-high), omega (arith, p .side-low), p .sector-low, omega (arith, p .sector-high))
 
 -- the number of one look at a record: `w` it is wrong, `d` it is defective
 abbrev pub flaw : Bool → Bool → ℕ

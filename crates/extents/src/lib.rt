@@ -3,6 +3,8 @@
 use fields::rank_of;
 use layout::first_byte;
 use layout::incorrect_mark;
+use layout::kind_after;
+use layout::kind_of;
 use layout::ordinal_of;
 use standard::Address;
 use standard::Geometry;
@@ -11,7 +13,8 @@ ghost use mathlib.Core.Path.{_≡_};
 ghost use mathlib.Core.Bool.{true, false, cond};
 ghost use Prim.Native.Nat.{_+_, _<_, _≤_};
 ghost use lib.ListN.{length, drop};
-ghost use Rattle.standard.specs.Addresses.{legal};
+ghost use Rattle.standard.specs.Layout.{kindOffset};
+ghost use Rattle.standard.specs.Addresses.{legal, ordinal};
 ghost use Rattle.standard.specs.Files.{addressesFrom, isDefective, isWrong};
 ghost use Rattle.extents.specs.Cursors.{legalAt, goodFrom, standing, addressOf};
 ghost use Rattle.extents.specs.Surveys.{surveyed};
@@ -29,26 +32,24 @@ pub enum Condition {
     Holed,
 }
 
-// "A record of the extent is defective if its mark is incorrect and its first byte `F`"
-fn is_defective(g: Geometry, image: &[u8], a: Address) -> bool
-    requires { ⌜ legal g a ≡ true ⌝ }
+// "A record of the extent is defective if its mark is incorrect and its first byte `F`". Its kind stands at `o`.
+pub fn is_defective(g: Geometry, image: &[u8], a: Address, o: u64) -> bool
+    requires { ⌜ (legal g a ≡ true) × (o ≡ kindOffset g (ordinal g a)) ⌝ }
     ensures { λ r. ⌜ r ≡ isDefective g (now (image .entry)) a ⌝ }
 {
-    let n = ordinal_of(g, a);
-    if !incorrect_mark(g, image, n) {
+    if !incorrect_mark(g, image, a, o) {
         return false;
     }
-    first_byte(g, image, n) == 70
+    first_byte(g, image, a, o) == 70
 }
 
 // One look at a record: 2 if it is wrong ("incorrect mark, not `F`"), 1 if it is defective, else 0. A walk over all records asks this once of each.
-fn flaw_of(g: Geometry, image: &[u8], a: Address) -> u64
-    requires { ⌜ legal g a ≡ true ⌝ }
+fn flaw_of(g: Geometry, image: &[u8], a: Address, o: u64) -> u64
+    requires { ⌜ (legal g a ≡ true) × (o ≡ kindOffset g (ordinal g a)) ⌝ }
     ensures { λ r. ⌜ r ≡ cond (isWrong g (now (image .entry)) a) 2 (cond (isDefective g (now (image .entry)) a) 1 0) ⌝ }
 {
-    let n = ordinal_of(g, a);
-    if incorrect_mark(g, image, n) {
-        if first_byte(g, image, n) == 70 {
+    if incorrect_mark(g, image, a, o) {
+        if first_byte(g, image, a, o) == 70 {
             return 1;
         }
         return 2;
@@ -56,21 +57,27 @@ fn flaw_of(g: Geometry, image: &[u8], a: Address) -> u64
     0
 }
 
-// One walk over all records from a cursor on.
+// One walk over all records from a cursor on. Each stands behind the one before, but where the track ends.
 pub fn survey(g: Geometry, image: &[u8], from: Cursor) -> Condition
     requires { ⌜ legalAt g from ≡ true ⌝ }
     ensures { λ r. ⌜ r ≡ surveyed g (now (image .entry)) false (addressesFrom g (from .left) (from .at)) ⌝ }
 {
     let mut at = from.at;
     let mut left = from.left;
+    if left == 0 {
+        return Condition::Whole;
+    }
+    let mut o = kind_of(g, at);
     let mut holed = false;
     while 0 < left {
-        let flaw = flaw_of(g, image, at);
+        let flaw = flaw_of(g, image, at, o);
         if flaw == 2 {
             return Condition::Wrong(ordinal_of(g, at));
         }
         holed = holed | (flaw == 1);
-        at = at.step(g);
+        let next = at.step(g);
+        o = kind_after(g, at, next, o);
+        at = next;
         left -= 1;
     }
     if holed {
@@ -86,12 +93,18 @@ pub fn to_good(g: Geometry, image: &[u8], from: Cursor) -> Cursor
 {
     let mut at = from.at;
     let mut left = from.left;
+    if left == 0 {
+        return from;
+    }
+    let mut o = kind_of(g, at);
     while 0 < left {
-        let bad = is_defective(g, image, at);
+        let bad = is_defective(g, image, at, o);
         if !bad {
             return Cursor { at: at, left: left };
         }
-        at = at.step(g);
+        let next = at.step(g);
+        o = kind_after(g, at, next, o);
+        at = next;
         left -= 1;
     }
     Cursor { at: at, left: 0 }
@@ -132,7 +145,7 @@ pub fn skip_good(g: Geometry, image: &[u8], from: Cursor, n: u64) -> Cursor
 }
 
 // What a record counts: 1 if it is good, 0 if it is defective.
-fn one_unless(defective: bool) -> u64
+pub fn one_unless(defective: bool) -> u64
     ensures { λ r. ⌜ (r ≡ cond defective 0 1) × (r ≤ 1) ⌝ }
 {
     if defective {
@@ -149,9 +162,15 @@ pub fn count_good(g: Geometry, image: &[u8], from: Cursor) -> u64
     let mut at = from.at;
     let mut left = from.left;
     let mut n = 0;
+    if left == 0 {
+        return n;
+    }
+    let mut o = kind_of(g, at);
     while 0 < left {
-        n += one_unless(is_defective(g, image, at));
-        at = at.step(g);
+        n += one_unless(is_defective(g, image, at, o));
+        let next = at.step(g);
+        o = kind_after(g, at, next, o);
+        at = next;
         left -= 1;
     }
     n

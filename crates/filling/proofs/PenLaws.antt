@@ -1,6 +1,6 @@
 -- Bytes laid from a pen on: within its record, from record to record, and one run behind another.
 -- Assumes nothing.
-use Prim.Native.Nat.{ℕ, suc, _+_, _-_, _<_, _≤_}
+use Prim.Native.Nat.{ℕ, _+_, _-_, _<_, _≤_}
 use mathlib.Core.Path.{_≡_, refl, sym, ap, subst, _∙_}
 use mathlib.Core.Bool.{true, false, cond}
 use mathlib.Core.List.{List, [], _∷_, _++_, append-assoc}
@@ -8,20 +8,20 @@ use lib.ListN.{length, getD, take, drop, set, length-set, length-append}
 use lib.Seq.{take-nil, drop-nil}
 use lib.Dec.{leb}
 use native.Mathlib.Omega.{arith}
-use borrow.Author.Tests.{lt-ltb, le-ltb, ne-eqb}
-use Rattle.standard.specs.Layout.{indexSectors, kAt, kindAt, kindOffset, bodyOffset, incorrectMark}
+use borrow.Author.Tests.{ne-eqb}
+use Rattle.standard.specs.Layout.{kAt, kindOffset, bodyOffset, incorrectMark}
 use Rattle.standard.specs.Addresses.{legal, ordinal, stepped}
 use Rattle.standard.specs.Writing.{splice}
 use Rattle.standard.specs.declared.Geometry.{Geometry}
 use Rattle.standard.specs.declared.Address.{Address}
 use Rattle.promises.specs.Splices.{splice-length}
 use Rattle.promises.specs.StoreLaws.{splice-join}
-use Rattle.promises.specs.AddressLaws.{parts, address, ordinal-is, ordinal-ge}
-use Rattle.promises.specs.Tiling.{size-data, next-sector, address-room}
+use Rattle.promises.specs.Tiling.{address-room}
 use Rattle.extents.specs.Cursors.{legalOn, legalAt, goodFrom, standing}
 use Rattle.extents.specs.declared.Cursor.{Cursor}
 use Rattle.extents.proofs.CursorLaws.{legal-head, legal-next, defect-none, good-stand, good-none, stand-next, stand-none}
 use Rattle.layout.specs.Room.{Sized}
+use Rattle.layout.proofs.TrackLaws.{data-k, incorrect-is}
 use Rattle.filling.specs.Poured.{poured, pouredFrom, laidBy, Placed, Lays, packed, Marked, Turned}
 use Rattle.filling.specs.declared.Pen.{Pen}
 use Rattle.filling.proofs.RunLaws.{splice-none, set-splice, in-part, take-over, drop-over, packed-length, packed-split, least-rest}
@@ -137,11 +137,6 @@ module _ (g : Geometry) (s : List ℕ) (p : Pen) (x : List ℕ) (h : Placed g s 
       subst (λ (u : List ℕ). Lays g s p x u p′) (sym (part-laid size part e f)) (within-record i′ at′ ei ea)
 
 -- ---- FROM RECORD TO RECORD
--- "all others the k of VOL1 position 76"
-data-k : (g : Geometry) (a : Address) → legal g a ≡ true → kAt g (ordinal g a) ≡ g .k
-unfolding kAt
-data-k g a h = simp (le-ltb (ordinal g a) (indexSectors g) (ordinal-ge g a h))
-
 module _ (g : Geometry) (s : List ℕ) (sized : Sized g s) (c : Cursor) (lc : legalAt g c ≡ true) (some : 1 ≤ c .left) where
   abbrev begun : ℕ
   begun = ordinal g (c .at)
@@ -213,28 +208,11 @@ turn-goes g s p next h e f ln less some s′ p′ m =
       stays = λ w bytes. absurd (omega (arith, w, m .first, h .0 .1));
     }
 
--- the record behind one on its track stands behind its body
-step-on : (g : Geometry) (a : Address) → a .sector < g .D → stepped g a ≡ address (a .cylinder) (a .side) (a .sector + 1)
-unfolding stepped
-step-on g a l = simp (lt-ltb (a .sector) (g .D) l)
-
-pub track-next : (g : Geometry) (a next : Address) → legal g a ≡ true → legal g next ≡ true → next ≡ stepped g a → a .sector < g .D → bodyOffset g (ordinal g a) + g .P ≡ kindOffset g (ordinal g next)
-unfolding bodyOffset
-track-next g a next la ln e l =
-    let b : Address = address (a .cylinder) (a .side) (a .sector + 1) in
-    let f : next ≡ b = e ∙ step-on g a l in
-    let lb : legal g b ≡ true = subst (λ (x : Address). legal g x ≡ true) f ln in
-    let o : ordinal g next ≡ suc (ordinal g a) = ap (ordinal g) f ∙ ordinal-is g b lb ∙ omega (arith, ordinal-is g a la, parts g a la .sector-low) in
-    omega (arith, ap (kindOffset g) o, next-sector g (ordinal g a), size-data g (ordinal g a) (ordinal-ge g a la))
-
 -- a record without the incorrect mark
 pub not-incorrect : (g : Geometry) (s : List ℕ) (a : Address) → legal g a ≡ true → (o b k : ℕ) → o ≡ kindOffset g (ordinal g a) → b ≡ getD s o 0 → k ≡ g .k → (b ≡ 16 + k → ⊥)
     → incorrectMark g s (ordinal g a) ≡ false
-unfolding incorrectMark kindAt
 not-incorrect g s a la o b k eo eb ek unlike =
-    let at = kindOffset g (ordinal g a) in
-    ne-eqb (getD s at 0) (16 + kAt g (ordinal g a))
-    (λ e. unlike (eb ∙ ap (λ (m : ℕ). getD s m 0) eo ∙ e ∙ ap (λ (m : ℕ). 16 + m) (data-k g a la ∙ sym ek)))
+    sym (incorrect-is g s a la o eo) ∙ ne-eqb (getD s o 0) (16 + g .k) (λ e. unlike (eb ∙ e ∙ ap (λ (m : ℕ). 16 + m) (sym ek)))
 
 -- the step to the record behind: there is none, or it is good
 module _ (g : Geometry) (s : List ℕ) (p : Pen) (h : Placed g s p) (e : p .i ≡ g .P) where

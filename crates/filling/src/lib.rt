@@ -4,9 +4,8 @@
 use extents::Cursor;
 use extents::next_good;
 use fields::wide16;
-use layout::kind_offset;
-use layout::ordinal_of;
-use standard::Address;
+use layout::kind_behind;
+use layout::kind_of;
 use standard::Geometry;
 use standard::wide;
 ghost use mathlib.Core.Path.{_≡_};
@@ -16,8 +15,8 @@ ghost use mathlib.Core.List.{List, _∷_};
 ghost use Prim.Native.Nat.{ℕ, _+_, _/_, _<_, _≤_};
 ghost use lib.ListN.{length, take, drop};
 ghost use Rattle.standard.specs.Characters.{digitOf, padded};
-ghost use Rattle.standard.specs.Layout.{kindOffset, bodyOffset};
-ghost use Rattle.standard.specs.Addresses.{legal, stepped, ordinal};
+ghost use Rattle.standard.specs.Layout.{kindOffset};
+ghost use Rattle.standard.specs.Addresses.{ordinal};
 ghost use Rattle.standard.specs.Packing.{fill};
 ghost use Rattle.standard.specs.Writing.{splice};
 ghost use Rattle.extents.specs.Cursors.{legalAt, standing};
@@ -82,7 +81,7 @@ fn mark(g: Geometry, image: &mut [u8], c: Cursor) -> Pen
     requires { ⌜ (Sized g (now image)) × (legalAt g c ≡ true) × (1 ≤ c .left) ⌝ }
     ensures { λ r. ⌜ Marked g (now (image .entry)) c (now (image .exit)) r ⌝ }
 {
-    let at = kind_offset(g, ordinal_of(g, c.at));
+    let at = kind_of(g, c.at);
     mark_at(g, image, c, at)
 }
 
@@ -104,18 +103,6 @@ fn turn_past(g: Geometry, image: &mut [u8], p: Pen) -> Pen
         return p;
     }
     mark(g, image, next)
-}
-
-// Where the record behind one begins: behind its body, `end`, if the track goes on; else its ordinal tells it.
-fn kind_behind(g: Geometry, a: Address, next: Address, end: u64) -> u64
-    requires { ⌜ (legal g a ≡ true) × (legal g next ≡ true) × (next ≡ stepped g a) × (end ≡ bodyOffset g (ordinal g a) + g .P) ⌝ }
-    ensures { λ r. ⌜ r ≡ kindOffset g (ordinal g next) ⌝ }
-{
-    let n = a.sector;
-    if n < wide(g.D) {
-        return end;
-    }
-    kind_offset(g, ordinal_of(g, next))
 }
 
 // From the end of a record to the next good one, where a byte is still to come; behind the last record the pen stays. A record without the incorrect mark is good,

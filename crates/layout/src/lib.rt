@@ -11,11 +11,12 @@ use standard::Refusal;
 use standard::byte_at;
 use standard::wide;
 ghost use mathlib.Core.Path.{_≡_};
+ghost use mathlib.Core.Bool.{true};
 ghost use Prim.Native.Nat.{_+_, _-_, _*_, _<_, _≤_};
 ghost use lib.ListN.{length};
-ghost use Rattle.standard.specs.Layout.{indexSectors, kAt, kindOffset, imageLength, kindAt, firstByte, incorrectMark, checkFailed, indexKind, indexBody, slotCount, slotOrdinal, labelOffset, labelAt};
+ghost use Rattle.standard.specs.Layout.{indexSectors, kindOffset, bodyOffset, imageLength, kindAt, firstByte, incorrectMark, checkFailed, indexKind, indexBody, slotCount, slotOrdinal, labelOffset, labelAt};
 ghost use Rattle.standard.specs.Defects.{skipOne, physical};
-ghost use Rattle.standard.specs.Addresses.{ordinal};
+ghost use Rattle.standard.specs.Addresses.{legal, ordinal, stepped};
 ghost use Rattle.standard.specs.Judgement.{refusal6};
 ghost use Rattle.layout.specs.Room.{Room};
 ghost use Rattle.layout.specs.Runs.{kindOf, legalRun};
@@ -53,18 +54,8 @@ pub fn slot_count(g: Geometry) -> u64
     first
 }
 
-// Sectors by ordinal: the k of its kinds, and where it begins.
-fn k_at(g: Geometry, n: u64) -> u64
-    ensures { λ r. ⌜ (r ≡ kAt g n) × (r < 256) ⌝ }
-{
-    let first = index_sectors(g);
-    if n < first {
-        return 0;
-    }
-    wide(g.k)
-}
-
-pub fn kind_offset(g: Geometry, n: u64) -> u64
+// Where the kind of a sector stands, by its ordinal.
+fn kind_offset(g: Geometry, n: u64) -> u64
     requires { ⌜ n < 4294967296 ⌝ }
     ensures { λ r. ⌜ (r ≡ kindOffset g n) × (r < 562949953421312) ⌝ }
 {
@@ -73,37 +64,6 @@ pub fn kind_offset(g: Geometry, n: u64) -> u64
         return n * 129;
     }
     first * 129 + times16(n - first, wide16(g.P) + 1)
-}
-
-fn kind_at(g: Geometry, image: &[u8], n: u64) -> u64
-    requires { ⌜ n < 4294967296 ⌝ }
-    ensures { λ r. ⌜ (r ≡ kindAt g (now (image .entry)) n) × (r < 256) ⌝ }
-{
-    byte_at(image, kind_offset(g, n) as usize)
-}
-
-pub fn first_byte(g: Geometry, image: &[u8], n: u64) -> u64
-    requires { ⌜ n < 4294967296 ⌝ }
-    ensures { λ r. ⌜ (r ≡ firstByte g (now (image .entry)) n) × (r < 256) ⌝ }
-{
-    byte_at(image, (kind_offset(g, n) + 1) as usize)
-}
-
-// "Kind k: valid data mark. Kind 16+k: incorrect-data mark. Kind 32+k: check failed, body not trusted."
-pub fn incorrect_mark(g: Geometry, image: &[u8], n: u64) -> bool
-    requires { ⌜ n < 4294967296 ⌝ }
-    ensures { λ r. ⌜ r ≡ incorrectMark g (now (image .entry)) n ⌝ }
-{
-    let k = 16 + k_at(g, n);
-    kind_at(g, image, n) == k
-}
-
-pub fn check_failed(g: Geometry, image: &[u8], n: u64) -> bool
-    requires { ⌜ n < 4294967296 ⌝ }
-    ensures { λ r. ⌜ r ≡ checkFailed g (now (image .entry)) n ⌝ }
-{
-    let k = 32 + k_at(g, n);
-    kind_at(g, image, n) == k
 }
 
 // ERMAP and VOL1, which are read before the volume's numbers are known: the kind and the body of a sector of index side 0.
@@ -189,6 +149,59 @@ pub fn ordinal_of(g: Geometry, a: Address) -> u64
     let q = physical_of(g, c);
     let track = times(q - 1, wide(g.S)) + s;
     index_sectors(g) + times(track, wide(g.D)) + (n - 1)
+}
+
+// Where the kind of the record that has a data address stands.
+pub fn kind_of(g: Geometry, a: Address) -> u64
+    requires { ⌜ legal g a ≡ true ⌝ }
+    ensures { λ r. ⌜ (r ≡ kindOffset g (ordinal g a)) × (r < 4398046511104) ⌝ }
+{
+    kind_offset(g, ordinal_of(g, a))
+}
+
+// A record whose kind is known to stand at `at`, for walks that come from one to the next: its mark, and its first byte. (`a` says which record it is.)
+// "Kind k: valid data mark. Kind 16+k: incorrect-data mark. Kind 32+k: check failed, body not trusted."
+pub fn incorrect_mark(g: Geometry, image: &[u8], a: Address, at: u64) -> bool
+    requires { ⌜ (legal g a ≡ true) × (at ≡ kindOffset g (ordinal g a)) ⌝ }
+    ensures { λ r. ⌜ r ≡ incorrectMark g (now (image .entry)) (ordinal g a) ⌝ }
+{
+    let k = 16 + wide(g.k);
+    byte_at(image, at as usize) == k
+}
+
+pub fn check_failed(g: Geometry, image: &[u8], a: Address, at: u64) -> bool
+    requires { ⌜ (legal g a ≡ true) × (at ≡ kindOffset g (ordinal g a)) ⌝ }
+    ensures { λ r. ⌜ r ≡ checkFailed g (now (image .entry)) (ordinal g a) ⌝ }
+{
+    let k = 32 + wide(g.k);
+    byte_at(image, at as usize) == k
+}
+
+pub fn first_byte(g: Geometry, image: &[u8], a: Address, at: u64) -> u64
+    requires { ⌜ (legal g a ≡ true) × (at ≡ kindOffset g (ordinal g a)) ⌝ }
+    ensures { λ r. ⌜ (r ≡ firstByte g (now (image .entry)) (ordinal g a)) × (r < 256) ⌝ }
+{
+    byte_at(image, (at + 1) as usize)
+}
+
+// Where the kind of the record behind one stands: behind its body, which ends at `end`, if the track goes on; else its ordinal tells it.
+pub fn kind_behind(g: Geometry, a: Address, next: Address, end: u64) -> u64
+    requires { ⌜ (legal g a ≡ true) × (next ≡ stepped g a) × (end ≡ bodyOffset g (ordinal g a) + g .P) ⌝ }
+    ensures { λ r. ⌜ r ≡ kindOffset g (ordinal g next) ⌝ }
+{
+    let n = a.sector;
+    if n < wide(g.D) {
+        return end;
+    }
+    kind_offset(g, ordinal_of(g, next))
+}
+
+// The same from where this one's kind stands.
+pub fn kind_after(g: Geometry, a: Address, next: Address, at: u64) -> u64
+    requires { ⌜ (legal g a ≡ true) × (next ≡ stepped g a) × (at ≡ kindOffset g (ordinal g a)) ⌝ }
+    ensures { λ r. ⌜ r ≡ kindOffset g (ordinal g next) ⌝ }
+{
+    kind_behind(g, a, next, at + 1 + wide16(g.P))
 }
 
 // Refusal 6. Most sectors have the valid mark, so that is asked first.

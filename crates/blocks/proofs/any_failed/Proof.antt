@@ -1,94 +1,107 @@
--- `any_failed` meets its contract.
+-- The first record, which counts as it stands, and then those behind it.
 -- Assumes nothing.
-use borrow.Author.Needs.{needs}
-use Prim.Native.Nat.{ℕ, _-_, _≤_}
-use mathlib.Core.Path.{_≡_, _∙_, sym, ap}
-use mathlib.Core.Bool.{true}
+use Prim.Native.Nat.{ℕ, _-_, _<_}
+use mathlib.Core.Path.{_≡_, sym, ap, _∙_}
+use mathlib.Core.Bool.{false, _||_}
 use mathlib.Core.List.{List}
 use lib.ListN.{take}
+use lib.Dec.{eqb}
 use native.Mathlib.Omega.{arith}
+use borrow.Author.Tests.{eqb-false}
 use denote.Ref.{now}
-use Rattle.standard.specs.declared.Address.{Address}
+use borrow.Author.Needs.{needs}
 use Rattle.standard.specs.Files.{anyFailed}
-use Rattle.extents.specs.Cursors.{legalAt, standing}
-use Rattle.extents.proofs.CursorLaws.{stand-none}
-use Rattle.blocks.proofs.LostLaws.{failed-on, failed-here, failed-end, failed-none}
+use Rattle.standard.specs.declared.Address.{Address}
+use Rattle.promises.specs.Basics.{or-l, or-r}
+use Rattle.extents.specs.Cursors.{legalOn, goodFrom, standing}
+use Rattle.extents.proofs.CursorLaws.{legal-head, legal-next, stand-next}
+use Rattle.blocks.proofs.LostLaws.{failed-on, failed-here, failed-first, failed-never}
 use Rattle.blocks.proofs.any_failed.Statement.{statement}
 use Rattle.blocks.proofs.any_failed.Tie as tie
 
-abbrev Inv-loop : tie.InvT-loop
-Inv-loop g image m c₀ n₀ c n = (anyFailed g image (take n (standing g image c)) ≡ anyFailed g image (take n₀ (standing g image c₀))) × (legalAt g c ≡ true) × (1 ≤ n)
+-- what the first test says
+some : (a b : ℕ) → (eqb a 0 || eqb b 0) ≡ false → (0 < a) × (0 < b)
+some a b h = let p = eqb-false a 0 (or-l (eqb a 0) (eqb b 0) h) in let q = eqb-false b 0 (or-r (eqb a 0) (eqb b 0) h) in (omega (arith, p), omega (arith, q))
 
-abbrev μ-loop : tie.MeasureT-loop
-μ-loop g image m c₀ n₀ c n = n
+returns : tie.Need-returns
+returns c = let x = c .before .before .before .args in sym (failed-never (x .g) (now (x .image)) (x .m) (x .from) (c .if1 .taken))
 
-returns : tie.Need-returns Inv-loop μ-loop
-returns c =
-    let x = c .before .before .args in
-    sym (failed-none (x .g) (now (x .image)) (x .m) (standing (x .g) (now (x .image)) (x .from)) (omega arith))
+kind-of-requires : tie.Need-kind-of-requires
+kind-of-requires c κs =
+    let c3 = c .before .before .before in
+    let x = c3 .args in
+    legal-head _ _ _ (some (x .m) (x .from .left) (c .if1 .left) .1) (c3 .pre)
 
-loop-holds : tie.Need-loop-holds Inv-loop μ-loop
-loop-holds c = search needs
+check-failed-requires : tie.Need-check-failed-requires
+check-failed-requires c κs =
+    let c4 = c .before .before .before .before in
+    let x = c4 .args in
+    (legal-head _ _ _ (some (x .m) (x .from .left) (c .before .if1 .left) .1) (c4 .pre), c .kind-of .ensures .0)
 
-returns-2 : tie.Need-returns-2 Inv-loop μ-loop
+returns-2 : tie.Need-returns-2
 returns-2 c =
-    let x = c .before .before .before .before .before .before .args in
-    let w = c .before .before .before .loop in
-    sym (sym (w .inv .0) ∙ failed-end (x .g) (now (x .image)) (w .n) (standing (x .g) (now (x .image)) (w .c)) (stand-none (x .g) (now (x .image)) (w .c) (omega arith)))
+    let c3 = c .before .before .before in
+    let x = c3 .before .before .before .args in
+    let s = some (x .m) (x .from .left) (c3 .if1 .left) in
+    let lost = failed-first (x .g) (now (x .image)) (x .from) (s .1) ∙ (sym (c .before .check-failed .ensures) ∙ c .if2 .taken) in
+    sym (failed-here (x .g) (now (x .image)) (x .m) (standing (x .g) (now (x .image)) (x .from)) (s .0) lost)
 
-failed-under-requires : tie.Need-failed-under-requires Inv-loop μ-loop
-failed-under-requires c κs = search needs
+step-requires : tie.Need-step-requires
+step-requires c κs = search needs
 
-returns-3 : tie.Need-returns-3 Inv-loop μ-loop
+kind-after-requires : tie.Need-kind-after-requires
+kind-after-requires c κs =
+    let c3 = c .before .before .before in
+    let c7 = c3 .before .before .before .before in
+    let x = c7 .args in
+    (legal-head _ _ _ (some (x .m) (x .from .left) (c3 .before .if1 .left) .1) (c7 .pre), c .step .ensures, c3 .kind-of .ensures .0)
+
+sub-t14 : tie.Need-sub-t14
+sub-t14 c =
+    let c5 = c .before .before .before .before .before in
+    let x = c5 .before .before .before .args in
+    omega (arith, some (x .m) (x .from .left) (c5 .if1 .left) .1)
+
+sub-failed-among : tie.Need-sub-failed-among
+sub-failed-among c =
+    let c5 = c .before .before .before .before .before in
+    let x = c5 .before .before .before .args in
+    omega (arith, some (x .m) (x .from .left) (c5 .if1 .left) .0)
+
+failed-among-requires : tie.Need-failed-among-requires
+failed-among-requires c κs =
+    let c5 = c .before .before .before .before .before in
+    let c8 = c5 .before .before .before in
+    let x = c8 .args in
+    let s = some (x .m) (x .from .left) (c5 .if1 .left) in
+    (ap (legalOn (x .g) (x .from .left - 1)) (c .before .step .ensures) ∙ legal-next (x .g) (x .from .left) (x .from .at) (s .1) (c8 .pre), c .kind-after .ensures)
+
+returns-3 : tie.Need-returns-3
 returns-3 c =
-    let x = c .before .before .before .before .before .before .before .before .args in
-    let w = c .before .before .before .before .before .loop in
-    sym (sym (w .inv .0) ∙ failed-here (x .g) (now (x .image)) (w .n) (standing (x .g) (now (x .image)) (w .c)) (omega arith) (sym (c .before .failed-under .ensures) ∙ c .if3 .taken))
-
-next-good-requires : tie.Need-next-good-requires Inv-loop μ-loop
-next-good-requires c κs = search needs
-
-sub-n : tie.Need-sub-n Inv-loop μ-loop
-sub-n c = search needs
-
-loop-less : tie.Need-loop-less Inv-loop μ-loop
-loop-less c = search needs
-
-loop-again : tie.Need-loop-again Inv-loop μ-loop
-loop-again c =
-    let x = c .before .before .before .before .before .before .before .before .before .args in
-    let w = c .before .before .before .before .before .before .loop in
-    let s = standing (x .g) (now (x .image)) (w .c) in (
-      ap (λ (t : List Address). anyFailed (x .g) (now (x .image)) (take (w .n - 1) t)) (c .next-good .ensures .0)
-          ∙ (failed-on (x .g) (now (x .image)) (w .n) s (omega arith) (sym (c .before .before .failed-under .ensures) ∙ c .before .if3 .left) ∙ w .inv .0),
-      c .next-good .ensures .1,
-      omega arith,
-    )
-
-failed-under-requires-2 : tie.Need-failed-under-requires-2 Inv-loop μ-loop
-failed-under-requires-2 c κs = search needs
-
-returns-4 : tie.Need-returns-4 Inv-loop μ-loop
-returns-4 c =
-    let x = c .before .before .before .before .before .args in
-    let w = c .before .before .loop in
-    let e : 1 ≡ w .n = omega (arith, w .inv .2) in
-    c .failed-under2 .ensures ∙ (ap (λ (k : ℕ). anyFailed (x .g) (now (x .image)) (take k (standing (x .g) (now (x .image)) (w .c)))) e ∙ w .inv .0)
+    let c3 = c .before .before .before in
+    let c6 = c3 .before .before .before in
+    let x = c6 .before .before .before .args in
+    let g = x .g in
+    let image = now (x .image) in
+    let s = some (x .m) (x .from .left) (c6 .if1 .left) in
+    let next = c .before .before .step .ensures in
+    let sound = failed-first g image (x .from) (s .1) ∙ (sym (c3 .before .check-failed .ensures) ∙ c3 .if2 .left) in
+    c .failed-among .ensures
+    ∙ ap (λ (a : Address). anyFailed g image (take (x .m - 1) (goodFrom g image (x .from .left - 1) a))) next
+    ∙ ap (λ (t : List Address). anyFailed g image (take (x .m - 1) t)) (stand-next g image (x .from .left) (x .from .at) (s .1))
+    ∙ failed-on g image (x .m) (standing g image (x .from)) (s .0) sound
 
 pub any-failed-spec : {M : Type 1} → statement M
 any-failed-spec =
     tie.close
     (tie.spec
-    Inv-loop
-    μ-loop
     returns
-    loop-holds
+    kind-of-requires
+    check-failed-requires
     returns-2
-    failed-under-requires
-    returns-3
-    next-good-requires
-    sub-n
-    loop-less
-    loop-again
-    failed-under-requires-2
-    returns-4)
+    step-requires
+    kind-after-requires
+    sub-t14
+    sub-failed-among
+    failed-among-requires
+    returns-3)

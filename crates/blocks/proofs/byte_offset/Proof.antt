@@ -1,17 +1,14 @@
--- `byte_offset` meets its contract.
+-- Behind the kind.
 -- Assumes nothing.
 use native.Mathlib.Omega.{arith}
 use Rattle.standard.specs.Layout.{bodyOffset}
-use Rattle.extents.proofs.CursorLaws.{legal-small, legal-head}
+use Rattle.extents.proofs.CursorLaws.{legal-head}
 use borrow.Author.Needs.{needs}
 use Rattle.blocks.proofs.byte_offset.Statement.{statement}
 use Rattle.blocks.proofs.byte_offset.Tie as tie
 
-ordinal-of-requires : tie.Need-ordinal-of-requires
-ordinal-of-requires c κs = let x = c .args in legal-small (x .g) (x .c .at) (omega arith) (omega arith) (omega arith) (legal-head (x .g) (x .c .left) (x .c .at) (omega arith) (cc))
-
-kind-offset-requires : tie.Need-kind-offset-requires
-kind-offset-requires c κs = search needs
+kind-of-requires : tie.Need-kind-of-requires
+kind-of-requires c κs = let x = c .args in legal-head (x .g) (x .c .left) (x .c .at) (omega arith) (cc)
 
 add-result : tie.Need-add-result
 add-result c = search needs
@@ -24,5 +21,4 @@ unfolding bodyOffset
 returns c = (cc, omega arith)
 
 pub byte-offset-spec : {M : Type 1} → statement M
-byte-offset-spec =
-    tie.close (tie.spec ordinal-of-requires kind-offset-requires add-result add-result-2 returns)
+byte-offset-spec = tie.close (tie.spec kind-of-requires add-result add-result-2 returns)

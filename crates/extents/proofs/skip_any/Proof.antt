@@ -4,7 +4,8 @@ use Prim.Native.Nat.{ℕ, _+_}
 use mathlib.Core.Path.{ap, _∙_}
 use native.Mathlib.Omega.{arith}
 use Rattle.extents.specs.Cursors.{addressOf}
-use Rattle.extents.proofs.CursorLaws.{legal-small, legal-head, legal-none}
+use Rattle.extents.proofs.CursorLaws.{legal-head, legal-none}
+use Rattle.layout.proofs.TrackLaws.{legal-small}
 use Rattle.extents.proofs.RankLaws.{from-nth, none-left, no-addresses, sides-some}
 use borrow.Author.Needs.{needs}
 use Rattle.extents.proofs.skip_any.Statement.{statement}

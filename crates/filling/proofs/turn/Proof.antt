@@ -26,12 +26,7 @@ kind-behind-requires c κs =
     let x = c .before .before .before .before .before .args in
     let q = c .before .before .before .before .before .pre in
     let more : 1 < x .p .c .left = omega (arith, q .0 .2, c .before .if1 .left) in
-    let e = c .step .ensures in (
-      legal-head (x .g) (x .p .c .left) (x .p .c .at) (omega (arith, more)) (q .0 .1),
-      legal-head (x .g) _ (c .step .result) (omega (arith, more)) (next-legal (x .g) (now (x .image)) (x .p) (q .0) (q .1) (c .step .result) e more),
-      e,
-      omega (arith, q .0 .4, q .1),
-    )
+    (legal-head (x .g) (x .p .c .left) (x .p .c .at) (omega (arith, more)) (q .0 .1), c .step .ensures, omega (arith, q .0 .4, q .1))
 
 slice-read-wide : tie.Need-slice-read-wide
 slice-read-wide c =

@@ -1,28 +1,27 @@
--- `first_byte` meets its contract.
+-- The byte behind the kind.
 -- Assumes nothing.
-use Prim.Native.Nat.{ℕ, _+_}
-use mathlib.Core.Path.{ap, _∙_}
-use lib.ListN.{getD}
+use mathlib.Core.Path.{_∙_}
+use native.Mathlib.Omega.{arith}
 use denote.Ref.{now}
-use Rattle.standard.specs.Layout.{firstByte, bodyOffset}
+use Rattle.layout.proofs.TrackLaws.{first-is, offset-low}
 use borrow.Author.Needs.{needs}
 use Rattle.layout.proofs.first_byte.Statement.{statement}
 use Rattle.layout.proofs.first_byte.Tie as tie
 
-kind-offset-requires : tie.Need-kind-offset-requires
-kind-offset-requires c κs = search needs
-
 add-byte-at : tie.Need-add-byte-at
-add-byte-at c = search needs
+add-byte-at c =
+    let x = c .before .args in
+    let p = c .before .pre in
+    omega (arith, p .1, offset-low (x .g) (omega arith) (omega arith) (omega arith) (omega arith) (omega arith) (x .a) (p .0))
 
 byte-at-requires : tie.Need-byte-at-requires
 byte-at-requires c κs = search needs
 
 returns : tie.Need-returns
-unfolding firstByte bodyOffset
 returns c =
-    let s = now (c .before .before .before .args .image) in
-    (c .byte-at .ensures .0 ∙ ap (λ (o : ℕ). getD s (o + 1) 0) (c .before .kind-offset .ensures .0), c .byte-at .ensures .1)
+    let x = c .before .before .args in
+    let p = c .before .before .pre in
+    (c .byte-at .ensures .0 ∙ first-is (x .g) (now (x .image)) (x .a) (p .0) (x .at) (p .1), c .byte-at .ensures .1)
 
 pub first-byte-spec : {M : Type 1} → statement M
-first-byte-spec = tie.close (tie.spec kind-offset-requires add-byte-at byte-at-requires returns)
+first-byte-spec = tie.close (tie.spec add-byte-at byte-at-requires returns)

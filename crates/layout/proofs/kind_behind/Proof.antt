@@ -1,13 +1,12 @@
--- `kind_behind` meets its contract.
+-- On the track, and from track to track.
 -- Assumes nothing.
 use mathlib.Core.Path.{ap, _∙_}
 use native.Mathlib.Omega.{arith}
 use borrow.Author.Needs.{needs}
 use Rattle.standard.specs.Layout.{kindOffset}
-use Rattle.extents.proofs.CursorLaws.{legal-small}
-use Rattle.filling.proofs.PenLaws.{track-next}
-use Rattle.filling.proofs.kind_behind.Statement.{statement}
-use Rattle.filling.proofs.kind_behind.Tie as tie
+use Rattle.layout.proofs.TrackLaws.{track-next, step-small}
+use Rattle.layout.proofs.kind_behind.Statement.{statement}
+use Rattle.layout.proofs.kind_behind.Tie as tie
 
 wide-requires : tie.Need-wide-requires
 wide-requires c κs = search needs
@@ -16,12 +15,13 @@ returns : tie.Need-returns
 returns c =
     let x = c .before .before .args in
     let p = c .before .before .pre in
-    p .3 ∙ track-next (x .g) (x .a) (x .next) (p .0) (p .1) (p .2) (omega (arith, c .if1 .taken, c .before .wide .ensures .0))
+    p .2 ∙ track-next (x .g) (x .a) (x .next) (p .0) (p .1) (omega (arith, c .if1 .taken, c .before .wide .ensures .0))
 
 ordinal-of-requires : tie.Need-ordinal-of-requires
 ordinal-of-requires c κs =
     let x = c .before .before .args in
-    legal-small (x .g) (x .next) (omega arith) (omega arith) (omega arith) (c .before .before .pre .1)
+    let p = c .before .before .pre in
+    step-small (x .g) (x .a) (x .next) (p .0) (p .1) (omega arith) (omega arith) (omega arith)
 
 kind-offset-requires : tie.Need-kind-offset-requires
 kind-offset-requires c κs = search needs
