@@ -1,0 +1,95 @@
+// "An opened file carries the lent image with it, so the read path asks it for record after record." The volume is judged and the file opened once; after
+// that a reading costs the record, not the volume. The work is in `carry` and `answer_on`, which take plain parameters. The functions over the struct are
+// thin: each takes it apart, or makes it, and calls one of those.
+use opening::FileNumbers;
+use opening::Opening;
+use opening::Seat;
+use opening::first_seat;
+use opening::open_in;
+use reading::read_on;
+use standard::Answer;
+use standard::Judged;
+use standard::Place;
+use standard::Refusal;
+use volume::judge;
+use volume::refusal_of;
+ghost use mathlib.Core.Path.{_≡_};
+ghost use Rattle.standard.specs.Records.{plain, salvage};
+ghost use Rattle.standard.specs.Reading.{readAnswer, outputAfter};
+ghost use Rattle.walks.specs.Walks.{modeOf};
+ghost use Rattle.opened.specs.Carries.{Carries, Asks};
+
+// What opening a file said: one of the refusals 1 to 18; or its numbers, and the seat of the block where the last reading began.
+pub enum Stage {
+    Closed(Refusal),
+    Going(FileNumbers, Seat),
+}
+
+// What an opened file carries beside the image.
+pub struct Carried {
+    pub slot: u64,
+    pub stage: Stage,
+}
+
+// An answer, and what the file carries from then on.
+pub struct Told {
+    pub answer: Answer,
+    pub carried: Carried,
+}
+
+// Judges the volume and opens the file in a slot. "A file call stops at the first refusal of the volume."
+pub fn carry(image: &[u8], slot: u64) -> Carried
+    ensures { λ r. ⌜ (Carries (now (image .entry)) r) × (r .slot ≡ slot) ⌝ }
+{
+    let j = judge(image);
+    let Judged::Volume(g) = j else {
+        return Carried {
+            slot: slot,
+            stage: Stage::Closed(refusal_of(j)),
+        };
+    };
+    let o = open_in(g, image, slot);
+    match o {
+        Opening::Shut(r) => Carried {
+            slot: slot,
+            stage: Stage::Closed(r),
+        },
+        Opening::Open(f) => Carried {
+            slot: slot,
+            stage: Stage::Going(f, first_seat(image, f)),
+        },
+    }
+}
+
+// A place of the file that is carried: neither the volume nor the file is judged again.
+pub fn answer_on(
+    image: &[u8],
+    carried: Carried,
+    salvage: bool,
+    place: Place,
+    out: &mut [u8],
+) -> Told
+    requires { ⌜ Carries (now image) carried ⌝ }
+    ensures { λ r. ⌜ Asks (now (image .entry)) (carried .slot) (modeOf salvage) place (now (out .entry)) (now (out .exit)) r ⌝ }
+{
+    let slot = carried.slot;
+    let stage = carried.stage;
+    match stage {
+        Stage::Closed(r) => Told {
+            answer: Answer::Unanswered(r),
+            carried: carried,
+        },
+        Stage::Going(f, seat) => {
+            let heard = read_on(image, f, salvage, seat, place, out);
+            let answer = heard.answer;
+            let next = heard.seat;
+            Told {
+                answer: answer,
+                carried: Carried {
+                    slot: slot,
+                    stage: Stage::Going(f, next),
+                },
+            }
+        }
+    }
+}
