@@ -1,1 +1,2 @@
 pub mod CarriesLaws
+pub mod Made

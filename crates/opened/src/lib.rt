@@ -93,3 +93,27 @@ pub fn answer_on(
         }
     }
 }
+
+// An opened file: the lent image, and what is carried beside it.
+pub struct OpenedFile<'a> {
+    pub image: &'a [u8],
+    pub carried: Carried,
+}
+
+// Opens the file in a slot: 1 to 18 are decided here, once.
+pub fn open<'a>(image: &'a [u8], slot: u64) -> OpenedFile<'a>
+    ensures { λ r. ⌜ (r .image ≡ image .entry) × (Carries (now (image .entry)) (r .carried)) × (r .carried .slot ≡ slot) ⌝ }
+{
+    OpenedFile {
+        image,
+        carried: carry(image, slot),
+    }
+}
+
+// Asks an opened file for a place, by salvage or by plain reading.
+pub fn ask<'a, 'b>(o: OpenedFile<'a>, salvage: bool, place: Place, out: &'b mut [u8]) -> Told
+    requires { ⌜ Carries (now (o .image)) (o .carried) ⌝ }
+    ensures { λ r. ⌜ Asks (now (o .entry .image)) (o .entry .carried .slot) (modeOf salvage) place (now (out .entry)) (now (out .exit)) r ⌝ }
+{
+    answer_on(o.image, o.carried, salvage, place, out)
+}
