@@ -117,3 +117,49 @@ pub fn ask<'a, 'b>(o: OpenedFile<'a>, salvage: bool, place: Place, out: &'b mut 
 {
     answer_on(o.image, o.carried, salvage, place, out)
 }
+
+// The same with plain parameters, so that whoever calls it needs no walk: the file in a slot is opened, and asked for a place.
+pub fn ask_at(image: &[u8], slot: u64, salvage: bool, place: Place, out: &mut [u8]) -> Told
+    ensures { λ r. ⌜ Asks (now (image .entry)) slot (modeOf salvage) place (now (out .entry)) (now (out .exit)) r ⌝ }
+{
+    ask(open(image, slot), salvage, place, out)
+}
+
+// And from what is carried, for a loop that goes on from answer to answer: the opened file is put together, and asked for a place.
+pub fn ask_next(image: &[u8], carried: Carried, salvage: bool, place: Place, out: &mut [u8]) -> Told
+    requires { ⌜ Carries (now image) carried ⌝ }
+    ensures { λ r. ⌜ Asks (now (image .entry)) (carried .slot) (modeOf salvage) place (now (out .entry)) (now (out .exit)) r ⌝ }
+{
+    ask(OpenedFile { image, carried }, salvage, place, out)
+}
+
+// "Reading a place gives the record and the place right behind it."
+pub fn read_at(image: &[u8], slot: u64, place: Place, out: &mut [u8]) -> Answer
+    ensures { λ r. ⌜ (r ≡ readAnswer plain (now (image .entry)) slot place (now (out .entry))) × (now (out .exit) ≡ outputAfter plain (now (image .entry)) slot place (now (out .entry))) ⌝ }
+{
+    let told = ask_at(image, slot, false, place, out);
+    told.answer
+}
+
+// "Salvage answers record, gap, End or refusal."
+pub fn salvage_at(image: &[u8], slot: u64, place: Place, out: &mut [u8]) -> Answer
+    ensures { λ r. ⌜ (r ≡ readAnswer salvage (now (image .entry)) slot place (now (out .entry))) × (now (out .exit) ≡ outputAfter salvage (now (image .entry)) slot place (now (out .entry))) ⌝ }
+{
+    let told = ask_at(image, slot, true, place, out);
+    told.answer
+}
+
+// The same from what is carried, with what is carried from then on.
+pub fn read_next(image: &[u8], carried: Carried, place: Place, out: &mut [u8]) -> Told
+    requires { ⌜ Carries (now image) carried ⌝ }
+    ensures { λ r. ⌜ Asks (now (image .entry)) (carried .slot) plain place (now (out .entry)) (now (out .exit)) r ⌝ }
+{
+    ask_next(image, carried, false, place, out)
+}
+
+pub fn salvage_next(image: &[u8], carried: Carried, place: Place, out: &mut [u8]) -> Told
+    requires { ⌜ Carries (now image) carried ⌝ }
+    ensures { λ r. ⌜ Asks (now (image .entry)) (carried .slot) salvage place (now (out .entry)) (now (out .exit)) r ⌝ }
+{
+    ask_next(image, carried, true, place, out)
+}
