@@ -1,21 +1,15 @@
 -- How many answers a reader that follows the places gets.
 -- Assumes nothing.
 use Prim.Native.Nat.{ℕ, zero, suc, _+_}
-use mathlib.Core.Bool.{Bool, not}
+use mathlib.Core.Bool.{not}
 use mathlib.Core.List.{List}
 use lib.Dec.{eqb}
-use Rattle.standard.specs.Judgement.{judged}
 use Rattle.standard.specs.Places.{start}
-use Rattle.standard.specs.Records.{Mode, File}
-use Rattle.standard.specs.Reading.{replyIn}
-use Rattle.standard.specs.declared.Judged.{Judged}
-use Rattle.standard.specs.declared.Judged.the-variants.{Refused, Volume}
+use Rattle.standard.specs.Records.{Mode}
+use Rattle.standard.specs.Reading.{reply}
 use Rattle.standard.specs.declared.Place.{Place}
 use Rattle.standard.specs.declared.Answer.{Answer}
 use Rattle.standard.specs.declared.Answer.the-variants.{Unanswered, Record as RecordOf, Gap, End}
-use Rattle.opening.specs.Opened.{openingIn, fileOf}
-use Rattle.opening.specs.declared.Opening.{Opening}
-use Rattle.opening.specs.declared.Opening.the-variants.{Shut, Open}
 use Rattle.walks.specs.Walks.{modeOf}
 use Rattle.pace.specs.declared.Led.{Led}
 use Rattle.pace.specs.declared.Led.the-variants.{On, Stop}
@@ -34,18 +28,10 @@ countOn (On pl) more = 1 + more pl
 
 -- from a place on, each answer at the place that the one before led to, till End or a refusal: how many are given before, n at most, to an output of so many
 -- bytes
-unfoldable pub answersFrom : Mode → File → ℕ → ℕ → Place → ℕ
-answersFrom m f room zero pl = 0
-answersFrom m f room (suc n) pl = countOn (ledBy (replyIn m f pl room .answer)) (λ next. answersFrom m f room n next)
+unfoldable pub answersFrom : Mode → List ℕ → ℕ → ℕ → ℕ → Place → ℕ
+answersFrom m image slot room zero pl = 0
+answersFrom m image slot room (suc n) pl = countOn (ledBy (reply m image slot pl room .answer)) (λ next. answersFrom m image slot room n next)
 
--- of the file in a slot, from Start: "Start is (0, 0)"; no answer where the volume or the slot is refused
-abbrev pub answersIn : Opening → Bool → List ℕ → ℕ → ℕ → ℕ
-answersIn (Shut r) s image room n = 0
-answersIn (Open f) s image room n = answersFrom (modeOf s) (fileOf image f) room n start
-
-abbrev pub answersOf : Judged → Bool → List ℕ → ℕ → ℕ → ℕ → ℕ
-answersOf (Refused r) s image slot room n = 0
-answersOf (Volume g) s image slot room n = answersIn (openingIn g image slot) s image room n
-
+-- of the file in a slot, from Start: "Start is (0, 0)"; none where the volume or the file is refused, as the first answer is that refusal
 abbrev pub paced : List ℕ → ℕ → ℕ → ℕ → ℕ → ℕ
-paced image slot mark room n = answersOf (judged image) (not (eqb mark 0)) image slot room n
+paced image slot mark room n = answersFrom (modeOf (not (eqb mark 0))) image slot room n start

@@ -6,8 +6,8 @@ use native.Mathlib.Omega.{arith}
 use denote.Ref.{now}
 use lib.ListN.{length}
 use Rattle.standard.specs.Places.{start}
-use Rattle.opening.specs.Opened.{fileOf, Seated}
 use Rattle.walks.specs.Walks.{modeOf}
+use Rattle.opened.specs.Carries.{Carries}
 use Rattle.pace.specs.Answers.{answersFrom}
 use Rattle.pace.proofs.CountLaws.{answers-start, answers-end, read-stop, read-on}
 use borrow.Author.Needs.{needs}
@@ -15,17 +15,18 @@ use Rattle.pace.proofs.follow.Statement.{statement}
 use Rattle.pace.proofs.follow.Tie as tie
 
 abbrev Inv-loop : tie.InvT-loop
-Inv-loop image f salvage out₀ seat₀ place₀ n₀ out seat place n =
+Inv-loop image slot salvage out₀ carried₀ place₀ n₀ out carried place n =
     (n ≤ 1048576)
     × (length out ≡ length out₀)
-    × (answersFrom (modeOf salvage) (fileOf image f) (length out₀) 1048576 start ≡ n + answersFrom (modeOf salvage) (fileOf image f) (length out₀) (1048576 - n) place)
-    × (Seated image f (seat .block) (seat .at))
+    × (answersFrom (modeOf salvage) image slot (length out₀) 1048576 start ≡ n + answersFrom (modeOf salvage) image slot (length out₀) (1048576 - n) place)
+    × (Carries image carried)
+    × (carried .slot ≡ slot)
 
 abbrev μ-loop : tie.MeasureT-loop
-μ-loop image f salvage out₀ seat₀ place₀ n₀ out seat place n = 1048576 - n
+μ-loop image slot salvage out₀ carried₀ place₀ n₀ out carried place n = 1048576 - n
 
-first-seat-requires : tie.Need-first-seat-requires Inv-loop μ-loop
-first-seat-requires c κs = search needs
+carry-requires : tie.Need-carry-requires Inv-loop μ-loop
+carry-requires c κs = search needs
 
 start-requires : tie.Need-start-requires Inv-loop μ-loop
 start-requires c κs = search needs
@@ -35,12 +36,13 @@ loop-holds c =
     let x = c .before .before .before .before .args in (
       omega arith,
       refl,
-      answers-start (modeOf (x .salvage)) (fileOf (now (x .image)) (x .f)) (length (now (x .out))) 1048576 _ (c .start .ensures),
-      c .before .first-seat .ensures,
+      answers-start (modeOf (x .salvage)) (now (x .image)) (x .slot) (length (now (x .out))) 1048576 _ (c .start .ensures),
+      c .before .carry .ensures .0,
+      c .before .carry .ensures .1,
     )
 
-read-on-requires : tie.Need-read-on-requires Inv-loop μ-loop
-read-on-requires c κs = search needs
+ask-next-requires : tie.Need-ask-next-requires Inv-loop μ-loop
+ask-next-requires c κs = search needs
 
 leads-requires : tie.Need-leads-requires Inv-loop μ-loop
 leads-requires c κs = search needs
@@ -54,8 +56,9 @@ same-length c = search needs
 returns : tie.Need-returns Inv-loop μ-loop
 returns c =
     let x = c .before .before .before .before .before .before .before .before .before .before .before .before .before .args in
-    let l = c .before .before .before .before .before .before .before .before .loop in (
-      read-stop (modeOf (x .salvage)) (fileOf (now (x .image)) (x .f)) (length (now (x .out))) (length (l .out)) 1048576 (l .n) _ (l .place) _ _ (l .inv .1) (c .before .before .before .before .before .read-on .ensures .0) (c .before .before .leads .ensures) (c .enum-told .given .1) (omega arith) (l .inv .2),
+    let l = c .before .before .before .before .before .before .before .before .loop in
+    let r = c .before .before .before .before .before .ask-next .ensures in (
+      read-stop (modeOf (x .salvage)) (now (x .image)) (x .slot) (l .carried .slot) (length (now (x .out))) (length (l .out)) (l .place) _ _ (l .inv .4) (l .inv .1) (r .0) (c .before .before .leads .ensures) 1048576 (l .n) _ (c .enum-told .given .1) (omega arith) (l .inv .2),
       l .inv .0,
     )
 
@@ -71,11 +74,13 @@ loop-less c = omega arith
 loop-again : tie.Need-loop-again Inv-loop μ-loop
 loop-again c =
     let x = c .before .before .before .before .before .before .before .before .before .before .before .before .before .before .before .args in
-    let l = c .before .before .before .before .before .before .before .before .before .before .loop in (
+    let l = c .before .before .before .before .before .before .before .before .before .before .loop in
+    let r = c .before .before .before .before .before .before .before .ask-next .ensures in (
       omega arith,
       search needs,
-      read-on (modeOf (x .salvage)) (fileOf (now (x .image)) (x .f)) (length (now (x .out))) (length (l .out)) 1048576 (l .n) _ (l .place) _ _ _ (l .inv .1) (c .before .before .before .before .before .before .before .read-on .ensures .0) (c .before .before .before .before .leads .ensures) (c .before .before .l .given .1) (omega arith) (l .inv .2),
-      c .before .before .before .before .before .before .before .read-on .ensures .2,
+      read-on (modeOf (x .salvage)) (now (x .image)) (x .slot) (l .carried .slot) (length (now (x .out))) (length (l .out)) (l .place) _ _ (l .inv .4) (l .inv .1) (r .0) (c .before .before .before .before .leads .ensures) 1048576 (l .n) _ _ (c .before .before .l .given .1) (omega arith) (l .inv .2),
+      r .2,
+      r .3 ∙ l .inv .4,
     )
 
 same-length-2 : tie.Need-same-length-2 Inv-loop μ-loop
@@ -85,7 +90,7 @@ returns-2 : tie.Need-returns-2 Inv-loop μ-loop
 returns-2 c =
     let x = c .before .before .before .before .before .before .args in
     let l = c .before .loop in (
-      sym (l .inv .2 ∙ answers-end (modeOf (x .salvage)) (fileOf (now (x .image)) (x .f)) (length (now (x .out))) 1048576 (l .n) (l .place) (omega arith)),
+      sym (l .inv .2 ∙ answers-end (modeOf (x .salvage)) (now (x .image)) (x .slot) (length (now (x .out))) 1048576 (l .n) (l .place) (omega arith)),
       l .inv .0,
     )
 
@@ -95,10 +100,10 @@ follow-spec =
     (tie.spec
     Inv-loop
     μ-loop
-    first-seat-requires
+    carry-requires
     start-requires
     loop-holds
-    read-on-requires
+    ask-next-requires
     leads-requires
     enum-told
     same-length
