@@ -1,7 +1,12 @@
 // The following program: it reads an image of at most 65,536 bytes from standard input, and follows the places of every slot from Start, in plain reading and
-// in salvage, so that both can be compared with an independent reader. One line is printed for each answer.
+// in salvage, so that both can be compared with an independent reader. Each file is opened once. One line is printed for each answer.
 use libc::STDIN_FILENO;
 use libc::STDOUT_FILENO;
+use opened::Carried;
+use opened::Told;
+use opened::carry;
+use opened::read_next;
+use opened::salvage_next;
 use standard::Answer;
 use standard::Place;
 use standard::Refusal;
@@ -16,8 +21,9 @@ ghost use lib.ListN.{length, take, replicate};
 ghost use Rattle.standard.specs.Characters.{shown};
 ghost use Rattle.standard.specs.Places.{start};
 ghost use Rattle.standard.specs.Records.{plain};
-ghost use Rattle.standard.specs.Reading.{readAnswer, outputAfter};
+ghost use Rattle.standard.specs.Reading.{readAnswer};
 ghost use Rattle.text.specs.Laid.{Puts};
+ghost use Rattle.opened.specs.Carries.{Carries, Asks};
 ghost use Rattle.following.specs.Lines.{spaced, markNumber, placeFields, hexDigit, pairOf, hexOf, bodyField, refusedFields, recordFields, answerFields, answerLine, modeOf, goesOn, nextOf, ofVolume};
 
 // A space and a number.
@@ -188,60 +194,72 @@ fn of_volume(a: Answer) -> bool
     }
 }
 
-// One reading of a place: `s` is salvage, every other letter plain reading.
-fn ask(image: &[u8], slot: u64, mode: u8, place: Place, out: &mut [u8]) -> Answer
-    ensures { λ r. ⌜ (r ≡ readAnswer (modeOf mode) (now (image .entry)) slot place (now (out .entry))) × (now (out .exit) ≡ outputAfter (modeOf mode) (now (image .entry)) slot place (now (out .entry))) ⌝ }
+// One reading of a place of an opened file: `s` is salvage, every other letter plain reading.
+fn ask(image: &[u8], carried: Carried, mode: u8, place: Place, out: &mut [u8]) -> Told
+    requires { ⌜ Carries (now image) carried ⌝ }
+    ensures { λ r. ⌜ Asks (now (image .entry)) (carried .slot) (modeOf mode) place (now (out .entry)) (now (out .exit)) r ⌝ }
 {
     if mode == 115 {
-        return reading::salvage(image, slot, place, out);
+        return salvage_next(image, carried, place, out);
     }
-    reading::read(image, slot, place, out)
+    read_next(image, carried, place, out)
 }
 
 // One reading, and its line. The output has 4,096 bytes.
-fn turn(image: &[u8], slot: u64, mode: u8, place: Place) -> Answer
-    ensures { λ r. ⌜ r ≡ readAnswer (modeOf mode) (now (image .entry)) slot place (replicate 4096 0) ⌝ }
+fn turn(image: &[u8], carried: Carried, mode: u8, place: Place) -> Told
+    requires { ⌜ Carries (now image) carried ⌝ }
+    ensures { λ r. ⌜ (r .answer ≡ readAnswer (modeOf mode) (now (image .entry)) (carried .slot) place (replicate 4096 0)) × (Carries (now (image .entry)) (r .carried)) × (r .carried .slot ≡ carried .slot) ⌝ }
 {
     let mut lent = [0u8; 4096];
-    let a = ask(image, slot, mode, place, &mut lent);
+    let told = ask(image, carried, mode, place, &mut lent);
+    let a = told.answer;
     let mut line = [0u8; 8448];
-    let length = put_line(&mut line, slot, mode, a, &lent);
+    let length = put_line(&mut line, carried.slot, mode, a, &lent);
     io::write_all(STDOUT_FILENO, &line[..length]);
-    a
+    told
 }
 
-// The row of a slot: Start, then each place that is handed out, up to End or a refusal.
-fn follow(image: &[u8], slot: u64, mode: u8) {
+// The row of a file: Start, then each place that is handed out, up to End or a refusal.
+fn follow(image: &[u8], from: Carried, mode: u8)
+    requires { ⌜ Carries (now image) from ⌝ }
+{
+    let mut carried = from;
     let mut place = Place::START;
     let mut left: u64 = 4096;
     while 0 < left {
-        let a = turn(image, slot, mode, place);
+        let told = turn(image, carried, mode, place);
+        let a = told.answer;
         if !goes_on(a) {
             return;
         }
+        carried = told.carried;
         place = next_of(a, place);
         left -= 1;
     }
 }
 
-// The first answer of all, with no line.
-fn first_answer(image: &[u8]) -> Answer
-    ensures { λ r. ⌜ r ≡ readAnswer plain (now (image .entry)) 1 start (replicate 4096 0) ⌝ }
+// The first answer of a file, with no line.
+fn first_answer(image: &[u8], carried: Carried) -> Answer
+    requires { ⌜ Carries (now image) carried ⌝ }
+    ensures { λ r. ⌜ r ≡ readAnswer plain (now (image .entry)) (carried .slot) start (replicate 4096 0) ⌝ }
 {
     let mut lent = [0u8; 4096];
-    ask(image, 1, 114, Place::START, &mut lent)
+    let told = ask(image, carried, 114, Place::START, &mut lent);
+    told.answer
 }
 
 // All rows: for each slot there may be, plain reading (`r`) and salvage (`s`). Where the volume is refused there is one line.
 fn rows(image: &[u8]) {
-    if of_volume(first_answer(image)) {
-        turn(image, 1, 114, Place::START);
+    let first = carry(image, 1);
+    if of_volume(first_answer(image, first)) {
+        turn(image, first, 114, Place::START);
         return;
     }
     let mut slot: u64 = 1;
     while slot <= 45 {
-        follow(image, slot, 114);
-        follow(image, slot, 115);
+        let carried = carry(image, slot);
+        follow(image, carried, 114);
+        follow(image, carried, 115);
         slot += 1;
     }
 }

@@ -2,18 +2,19 @@
 -- Assumes nothing.
 use Prim.Native.Nat.{_≤_}
 use native.Mathlib.Omega.{arith}
+use Rattle.opened.specs.Carries.{Carries}
 use borrow.Author.Needs.{needs}
 use Rattle.following.proofs.follow.Statement.{statement}
 use Rattle.following.proofs.follow.Tie as tie
 
 abbrev Inv-loop : tie.InvT-loop
-Inv-loop image slot mode place₀ left₀ place left = left ≤ 4096
+Inv-loop image mode carried₀ place₀ left₀ carried place left = (left ≤ 4096) × (Carries image carried)
 
 abbrev μ-loop : tie.MeasureT-loop
-μ-loop image slot mode place₀ left₀ place left = left
+μ-loop image mode carried₀ place₀ left₀ carried place left = left
 
 loop-holds : tie.Need-loop-holds Inv-loop μ-loop
-loop-holds c = omega arith
+loop-holds c = (omega arith, search needs)
 
 turn-requires : tie.Need-turn-requires Inv-loop μ-loop
 turn-requires c κs = search needs
@@ -34,7 +35,7 @@ loop-less : tie.Need-loop-less Inv-loop μ-loop
 loop-less c = search needs
 
 loop-again : tie.Need-loop-again Inv-loop μ-loop
-loop-again c = omega arith
+loop-again c = (omega arith, search needs)
 
 returns-2 : tie.Need-returns-2 Inv-loop μ-loop
 returns-2 c = search needs

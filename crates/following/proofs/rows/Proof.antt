@@ -12,6 +12,9 @@ Inv-loop image slot₀ slot = slot ≤ 46
 abbrev μ-loop : tie.MeasureT-loop
 μ-loop image slot₀ slot = 46 - slot
 
+carry-requires : tie.Need-carry-requires Inv-loop μ-loop
+carry-requires c κs = search needs
+
 first-answer-requires : tie.Need-first-answer-requires Inv-loop μ-loop
 first-answer-requires c κs = search needs
 
@@ -26,6 +29,9 @@ returns c = search needs
 
 loop-holds : tie.Need-loop-holds Inv-loop μ-loop
 loop-holds c = omega arith
+
+carry-requires-2 : tie.Need-carry-requires-2 Inv-loop μ-loop
+carry-requires-2 c κs = search needs
 
 follow-requires : tie.Need-follow-requires Inv-loop μ-loop
 follow-requires c κs = search needs
@@ -51,11 +57,13 @@ rows-spec =
     (tie.spec
     Inv-loop
     μ-loop
+    carry-requires
     first-answer-requires
     of-volume-requires
     turn-requires
     returns
     loop-holds
+    carry-requires-2
     follow-requires
     follow-requires-2
     add-slot
