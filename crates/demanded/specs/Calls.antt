@@ -90,7 +90,8 @@ abbrev pub give : List ℕ → ℕ → List ℕ → List ℕ → Given
 give image slot bodies lengths = record { image = image; slot = slot; bodies = bodies; lengths = lengths }
 
 -- ======== THE CALLS ON AN IMAGE
--- volume::judge, find, find_slot, label_named, label_in_slot, free; files::count; lines::list; reading::read (plain) and salvage; writing::write
+-- volume::judge, find, find_slot, label_named, label_in_slot, free; files::count; lines::list; reading::read (plain) and salvage, and the same by an opened
+-- file, opened::read_at and salvage_at; writing::write
 pub data Call : Type 0 where
   judge find find-slot label-named label-in-slot free count list write : Call
   read : Mode → Call

@@ -77,6 +77,20 @@ pub fn salvage(image: &[u8], slot: u64, place: Place, out: &mut [u8]) -> Answer
     reading::salvage(image, slot, place, out)
 }
 
+// By an opened file: the same rows, however the image is carried.
+
+pub fn opened_read(image: &[u8], slot: u64, place: Place, out: &mut [u8]) -> Answer
+    ensures { λ r. ⌜ Allows (contract (Calls.read plain)) (ask (now (image .entry)) slot place (now (out .entry))) r (now (out .exit)) ⌝ }
+{
+    opened::read_at(image, slot, place, out)
+}
+
+pub fn opened_salvage(image: &[u8], slot: u64, place: Place, out: &mut [u8]) -> Answer
+    ensures { λ r. ⌜ Allows (contract (Calls.read salvaging)) (ask (now (image .entry)) slot place (now (out .entry))) r (now (out .exit)) ⌝ }
+{
+    opened::salvage_at(image, slot, place, out)
+}
+
 pub fn write(image: &mut [u8], slot: u64, bodies: &[u8], lengths: &[u32]) -> Written
     ensures { λ r. ⌜ Allows (contract Calls.write) (give (now (image .entry)) slot (now (bodies .entry)) (now (lengths .entry))) r (now (image .exit)) ⌝ }
 {
