@@ -118,6 +118,22 @@ pub fn ask<'a, 'b>(o: OpenedFile<'a>, salvage: bool, place: Place, out: &'b mut 
     answer_on(o.image, o.carried, salvage, place, out)
 }
 
+// "Reading a place gives the record and the place right behind it."
+pub fn read<'a, 'b>(o: OpenedFile<'a>, place: Place, out: &'b mut [u8]) -> Told
+    requires { ⌜ Carries (now (o .image)) (o .carried) ⌝ }
+    ensures { λ r. ⌜ Asks (now (o .entry .image)) (o .entry .carried .slot) plain place (now (out .entry)) (now (out .exit)) r ⌝ }
+{
+    ask(o, false, place, out)
+}
+
+// "Salvage answers record, gap, End or refusal."
+pub fn salvage<'a, 'b>(o: OpenedFile<'a>, place: Place, out: &'b mut [u8]) -> Told
+    requires { ⌜ Carries (now (o .image)) (o .carried) ⌝ }
+    ensures { λ r. ⌜ Asks (now (o .entry .image)) (o .entry .carried .slot) salvage place (now (out .entry)) (now (out .exit)) r ⌝ }
+{
+    ask(o, true, place, out)
+}
+
 // The same with plain parameters, so that whoever calls it needs no walk: the file in a slot is opened, and asked for a place.
 pub fn ask_at(image: &[u8], slot: u64, salvage: bool, place: Place, out: &mut [u8]) -> Told
     ensures { λ r. ⌜ Asks (now (image .entry)) slot (modeOf salvage) place (now (out .entry)) (now (out .exit)) r ⌝ }
