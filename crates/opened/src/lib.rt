@@ -134,6 +134,16 @@ pub fn salvage<'a, 'b>(o: OpenedFile<'a>, place: Place, out: &'b mut [u8]) -> To
     ask(o, true, place, out)
 }
 
+// The opened file with what an answer left it to carry: from answer to answer the image stays lent.
+pub fn going_on<'a>(o: OpenedFile<'a>, carried: Carried) -> OpenedFile<'a>
+    ensures { λ r. ⌜ (r .image ≡ o .entry .image) × (r .carried ≡ carried) ⌝ }
+{
+    OpenedFile {
+        image: o.image,
+        carried,
+    }
+}
+
 // The same with plain parameters, so that whoever calls it needs no walk: the file in a slot is opened, and asked for a place.
 pub fn ask_at(image: &[u8], slot: u64, salvage: bool, place: Place, out: &mut [u8]) -> Told
     ensures { λ r. ⌜ Asks (now (image .entry)) slot (modeOf salvage) place (now (out .entry)) (now (out .exit)) r ⌝ }
