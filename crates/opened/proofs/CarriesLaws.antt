@@ -1,7 +1,7 @@
 -- From judging and opening to what is carried, and from that to the answer.
 -- Assumes nothing.
 use Prim.Native.Nat.{ℕ}
-use mathlib.Core.Path.{_≡_, refl, sym, ap, _∙_}
+use mathlib.Core.Path.{_≡_, refl}
 use mathlib.Core.List.{List}
 use lib.ListN.{length}
 use Rattle.standard.specs.Judgement.{judged}
@@ -21,9 +21,8 @@ use Rattle.opening.specs.declared.Seat.{Seat}
 use Rattle.opening.specs.declared.Opening.the-variants.{Shut, Open}
 use Rattle.opening.proofs.OpenedLaws.{opened-of}
 use Rattle.reading.proofs.ReplyLaws.{answer-refused, answer-shut, answer-open}
-use Rattle.opened.specs.Carries.{openingOn, openingOf, CarriesAt, Carries}
+use Rattle.opened.specs.Carries.{openingOn, openingOf, Carries}
 use Rattle.opened.specs.declared.Carried.{Carried}
-use Rattle.opened.specs.declared.Stage.{Stage}
 use Rattle.opened.specs.declared.Stage.the-variants.{Closed, Going}
 
 module _ (image : List ℕ) (slot : ℕ) where

@@ -1,6 +1,6 @@
 // "An opened file carries the lent image with it, so the read path asks it for record after record." The volume is judged and the file opened once; after
 // that a reading costs the record, not the volume. The work is in `carry` and `answer_on`, which take plain parameters. The functions over the struct are
-// thin: each takes it apart, or makes it, and calls one of those.
+// thin: each makes it, takes it apart or passes it on.
 use opening::FileNumbers;
 use opening::Opening;
 use opening::Seat;
@@ -62,13 +62,7 @@ pub fn carry(image: &[u8], slot: u64) -> Carried
 }
 
 // A place of the file that is carried: neither the volume nor the file is judged again.
-pub fn answer_on(
-    image: &[u8],
-    carried: Carried,
-    salvage: bool,
-    place: Place,
-    out: &mut [u8],
-) -> Told
+fn answer_on(image: &[u8], carried: Carried, salvage: bool, place: Place, out: &mut [u8]) -> Told
     requires { ⌜ Carries (now image) carried ⌝ }
     ensures { λ r. ⌜ Asks (now (image .entry)) (carried .slot) (modeOf salvage) place (now (out .entry)) (now (out .exit)) r ⌝ }
 {
@@ -111,7 +105,7 @@ pub fn open<'a>(image: &'a [u8], slot: u64) -> OpenedFile<'a>
 }
 
 // Asks an opened file for a place, by salvage or by plain reading.
-pub fn ask<'a, 'b>(o: OpenedFile<'a>, salvage: bool, place: Place, out: &'b mut [u8]) -> Told
+fn ask<'a, 'b>(o: OpenedFile<'a>, salvage: bool, place: Place, out: &'b mut [u8]) -> Told
     requires { ⌜ Carries (now (o .image)) (o .carried) ⌝ }
     ensures { λ r. ⌜ Asks (now (o .entry .image)) (o .entry .carried .slot) (modeOf salvage) place (now (out .entry)) (now (out .exit)) r ⌝ }
 {
@@ -145,13 +139,13 @@ pub fn going_on<'a>(o: OpenedFile<'a>, carried: Carried) -> OpenedFile<'a>
 }
 
 // The same with plain parameters, so that whoever calls it needs no walk: the file in a slot is opened, and asked for a place.
-pub fn ask_at(image: &[u8], slot: u64, salvage: bool, place: Place, out: &mut [u8]) -> Told
+fn ask_at(image: &[u8], slot: u64, salvage: bool, place: Place, out: &mut [u8]) -> Told
     ensures { λ r. ⌜ Asks (now (image .entry)) slot (modeOf salvage) place (now (out .entry)) (now (out .exit)) r ⌝ }
 {
     ask(open(image, slot), salvage, place, out)
 }
 
-// And from what is carried, for a loop that goes on from answer to answer: the opened file is put together, and asked for a place.
+// And from what is carried, for a loop that goes on from answer to answer: the opened file is put together again, and asked for a place.
 pub fn ask_next(image: &[u8], carried: Carried, salvage: bool, place: Place, out: &mut [u8]) -> Told
     requires { ⌜ Carries (now image) carried ⌝ }
     ensures { λ r. ⌜ Asks (now (image .entry)) (carried .slot) (modeOf salvage) place (now (out .entry)) (now (out .exit)) r ⌝ }
