@@ -160,6 +160,11 @@ static inline unsigned galz_sides(galz_u64 answer) { return (unsigned)galz_bits(
 static inline unsigned galz_defect_1(galz_u64 answer) { return (unsigned)galz_bits(answer, 32, 8); }
 static inline unsigned galz_defect_2(galz_u64 answer) { return (unsigned)galz_bits(answer, 40, 8); }
 
+/* galz_judge too: how many label slots the volume has; their numbers begin with 1. And where the body of a slot's sector begins in an accepted image: the byte
+   before it is the sector's kind, 0 for a label, whose 128 bytes follow; any other kind is a deleted slot's. */
+static inline unsigned galz_slots(galz_u64 answer) { return galz_index_sectors(answer) * galz_sides(answer) - 7; }
+static inline galz_u64 galz_slot_offset(galz_u64 slot) { return (slot + 6) * 129 + 1; }
+
 /* galz_find: the slot, and where the label begins in the image */
 static inline galz_u64 galz_slot(galz_u64 answer) { return galz_bits(answer, 24, 32); }
 static inline galz_u64 galz_offset(galz_u64 answer) { return galz_bits(answer, 0, 24); }

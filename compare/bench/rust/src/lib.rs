@@ -1,7 +1,8 @@
 //! The independent program's calls as C functions of the same form as the
-//! library's, so that one driver measures both.
+//! library's, so that one driver measures both, and a program in C runs over
+//! either.
 
-use compare::{packed, reading, volume, writing, Place};
+use compare::{file, packed, reading, volume, writing, Place};
 use std::slice::{from_raw_parts, from_raw_parts_mut};
 
 /// # Safety
@@ -10,6 +11,36 @@ use std::slice::{from_raw_parts, from_raw_parts_mut};
 pub unsafe extern "C" fn rust_judge(image: *const u8, length: u64) -> u64 {
     let image = from_raw_parts(image, length as usize);
     packed::judged(&volume::judge(image))
+}
+
+/// # Safety
+/// As of `rust_judge`; `name` points to `name_length` bytes likewise.
+#[no_mangle]
+pub unsafe extern "C" fn rust_find(
+    image: *const u8,
+    length: u64,
+    name: *const u8,
+    name_length: u64,
+) -> u64 {
+    let image = from_raw_parts(image, length as usize);
+    let name = from_raw_parts(name, name_length as usize);
+    packed::found(&file::find(image, name))
+}
+
+/// # Safety
+/// As of `rust_judge`.
+#[no_mangle]
+pub unsafe extern "C" fn rust_count(image: *const u8, length: u64, slot: u64) -> u64 {
+    let image = from_raw_parts(image, length as usize);
+    packed::number(&file::count(image, slot))
+}
+
+/// # Safety
+/// As of `rust_judge`.
+#[no_mangle]
+pub unsafe extern "C" fn rust_free(image: *const u8, length: u64) -> u64 {
+    let image = from_raw_parts(image, length as usize);
+    packed::number(&file::free(image))
 }
 
 fn place(block: u64, offset: u64, mark: u64) -> Place {
