@@ -12,8 +12,13 @@ pub const MOST_BYTES: usize = 65_536;
 
 /// The text for an image: "the volume line ..., then one line per label".
 pub fn listing(image: &[u8]) -> Vec<u8> {
+    listing_up_to(MOST_BYTES, image)
+}
+
+/// The same of a program that takes images of at most so many bytes.
+pub fn listing_up_to(most: usize, image: &[u8]) -> Vec<u8> {
     // "Longer input prints `TOO LONG` alone."
-    if image.len() > MOST_BYTES {
+    if image.len() > most {
         return b"TOO LONG\n".to_vec();
     }
     let geometry = match judge(image) {

@@ -3,6 +3,7 @@
 use compare::cover::cover;
 use compare::drive::serve;
 use compare::listing::{listing, MOST_BYTES};
+use compare::make::case;
 use compare::make::sample::{named, NAMES};
 use compare::make::sizes::to_write;
 use compare::options::{Options, SEED};
@@ -16,6 +17,7 @@ const DEFAULT_LARGEST: usize = 70_000;
 const HELP: &str = "\
 compare listing                         lists the image on standard input
 compare sample NAME                     writes a sample image to standard output
+compare drawn NUMBER                    writes the image of a drawn case
 compare cover [--seed N] [--count N]    shows what the made cases reach
 compare check [--seed N] [--count N]    checks the properties on made cases
 compare walk read MOST                  writes how many places reading the file in slot 1 of the image on standard input
@@ -34,6 +36,7 @@ fn main() -> ExitCode {
     match words.as_slice() {
         ["listing"] => show_listing(),
         ["sample", name] => sample(name),
+        ["drawn", number] => drawn(number),
         ["cover", options @ ..] => with_options(options, 20_000, show_cover),
         ["check", options @ ..] => with_options(options, 5_000, show_check),
         ["walk", "read", most] => walk(false, most),
@@ -77,6 +80,13 @@ fn sample(name: &str) -> ExitCode {
             eprintln!("samples: {}", NAMES.join(", "));
             ExitCode::from(2)
         }
+    }
+}
+
+fn drawn(number: &str) -> ExitCode {
+    match number.parse() {
+        Ok(number) => print(&case(SEED, number, DEFAULT_LARGEST).image),
+        Err(_) => misused(),
     }
 }
 

@@ -14,17 +14,22 @@ const MOST_SHOWN: usize = 4_000;
 const LARGEST: usize = 70_000;
 
 /// Runs the command behind `--` once for each image, the samples and those of
-/// so many drawn cases, and compares what it writes with what is right.
-pub fn compared(help: &str, right: impl Fn(&[u8]) -> Vec<u8>) -> ExitCode {
+/// so many drawn cases, and compares what it writes with what is right, which
+/// may hang on further options.
+pub fn compared(
+    help: &str,
+    further: &[(&'static str, u64)],
+    right: impl Fn(&Options, &[u8]) -> Vec<u8>,
+) -> ExitCode {
     let words: Vec<String> = std::env::args().skip(1).collect();
-    let defaults = [("seed", SEED), ("count", 400)];
+    let defaults = [&[("seed", SEED), ("count", 400)], further].concat();
     let Some(options) = Options::with_command(&words, &defaults) else {
         eprint!("{help}");
         return ExitCode::from(2);
     };
     let (mut passed, mut failed) = (0, 0);
     for (name, image) in images(&options) {
-        let (right, is) = (right(&image), run(&options.command, &image));
+        let (right, is) = (right(&options, &image), run(&options.command, &image));
         if is.as_deref() == Ok(&right[..]) {
             passed += 1;
             continue;

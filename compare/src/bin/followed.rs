@@ -21,7 +21,7 @@ const MOST_ANSWERS: usize = 4_096;
 const SLOTS: u64 = 45;
 
 fn main() -> ExitCode {
-    piped::compared(HELP, |image| rows(image).into_bytes())
+    piped::compared(HELP, &[], |_, image| rows(image).into_bytes())
 }
 
 /// All rows of an image; of a volume that is refused, one line.

@@ -1,16 +1,21 @@
 //! The library's listing program against the independent one: what it writes
 //! of an image on its standard input.
 
-use compare::{listing, piped};
+use compare::listing::{listing_up_to, MOST_BYTES};
+use compare::piped;
 use std::process::ExitCode;
 
 const HELP: &str = "\
-listed [--seed N] [--count N] -- COMMAND..
+listed [--seed N] [--count N] [--most BYTES] -- COMMAND..
 
 Runs COMMAND once for each image, the samples and those of so many drawn
-cases, and compares what it writes. The last line is 'N passed, M failed'.
+cases, and compares what it writes; images over so many bytes are too long for
+it. The last line is 'N passed, M failed'.
 ";
 
 fn main() -> ExitCode {
-    piped::compared(HELP, listing)
+    let most = [("most", MOST_BYTES as u64)];
+    piped::compared(HELP, &most, |options, image| {
+        listing_up_to(options.count("most"), image)
+    })
 }
