@@ -40,7 +40,7 @@ static enum status write_records(struct bytes *image, galz_u64 slot, const struc
 		return say_refusal(written);
 	enum status status = store(image, words->output ? words->output : words->image);
 	if (status == DONE)
-		say("%zu records, %zu bytes, %llu blocks", records->count, records->length, galz_number(written));
+		say("records %zu, bytes %zu, blocks %llu", records->count, records->length, galz_number(written));
 	return status;
 }
 

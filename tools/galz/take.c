@@ -34,7 +34,7 @@ static enum status pour(const struct bytes *image, galz_u64 slot, const struct w
 			return say_refusal(tally->refusal = answer);
 		block = galz_next_block(answer), offset = galz_next_offset(answer), mark = galz_next_mark(answer);
 		if (galz_is_gap(answer)) {
-			say("gap after %llu records: block %llu is lost", tally->records, block - 1);
+			say("gap: block %llu is lost (records so far %llu)", block - 1, tally->records);
 			tally->gaps++;
 		} else if (!pour_record(to, words->form, out, galz_length(answer), tally)) {
 			return FAILED;
@@ -81,7 +81,7 @@ enum status read_file(struct bytes *image, const struct words *words)
 	else
 		status = pour_file(image, slot, words, stdout, "standard output", &tally);
 	if (words->salvage && status != FAILED)
-		say("%llu records, %llu bytes, %llu gaps, %llu blocks lost", tally.records, tally.bytes, tally.gaps, tally.gaps);
+		say("records %llu, bytes %llu, gaps %llu, blocks lost %llu", tally.records, tally.bytes, tally.gaps, tally.gaps);
 	return with_gaps(status, &tally);
 }
 
