@@ -1,0 +1,53 @@
+# Wrong usage: status 2, one line on standard error, nothing done.
+
+test_misuse() {
+  fresh
+  sample demo
+  cp demo.img "$scratch/before.img"
+  ends 2
+  misused 'a command is missing'
+  ends 2 lists demo.img
+  misused 'no such command: lists'
+  ends 2 list
+  misused 'an operand is missing'
+  ends 2 list demo.img demo.img
+  misused 'one operand too many: demo.img'
+  ends 2 list a b c d e
+  misused 'one operand too many: e'
+  ends 2 list --force demo.img
+  misused 'no such option: --force'
+  ends 2 judge -o x demo.img
+  misused 'no such option: -o'
+  ends 2 read demo.img
+  misused 'an operand is missing'
+  ends 2 read --slot 3 demo.img LOG
+  misused 'one operand too many: LOG'
+  ends 2 read demo.img LOG --as
+  misused 'a value is missing: --as'
+  for form in '' line LINES; do
+    ends 2 read --as "$form" demo.img LOG
+    misused 'not a value of the option: --as'
+  done
+  for slot in '' x -1 1x ' 1' 9999999999999999999; do
+    ends 2 read --slot "$slot" demo.img
+    misused 'not a value of the option: --slot'
+  done
+  ends 2 read -o '' demo.img LOG
+  misused 'not a value of the option: -o'
+  for length in 0 -1 x 4294967296; do
+    ends 2 write --as raw --record-length "$length" demo.img LOG /dev/null
+    misused 'not a value of the option: --record-length'
+  done
+  ends 2 write --as raw demo.img LOG /dev/null
+  misused '--as raw and --record-length go together'
+  ends 2 write --record-length 5 demo.img LOG /dev/null
+  misused '--as raw and --record-length go together'
+  ends 2 write - LOG /dev/null
+  misused 'an image from standard input needs -o'
+  ends 2 write -o x - LOG -
+  misused 'image and host file cannot both be standard input'
+  ends 2 extract-all demo.img
+  misused 'an operand is missing'
+  same demo.img "$scratch/before.img"
+  stands demo.img
+}
