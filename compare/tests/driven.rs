@@ -97,3 +97,13 @@ fn the_listing_is_compared_byte_for_byte() {
     assert!(text(&wrong).ends_with("0 passed, 31 failed\n"));
     assert_eq!(run(LISTED, &["--count"]).status.code(), Some(2));
 }
+
+#[test]
+fn what_is_too_long_for_the_listing_is_said() {
+    let longer = ["--count", "0", "--most", "100000", "--", COMPARE, "listing"];
+    assert!(text(&run(LISTED, &longer)).ends_with("11 passed, 0 failed\n"));
+    let all = [
+        "--count", "0", "--most", "6000000", "--", COMPARE, "listing",
+    ];
+    assert!(text(&run(LISTED, &all)).ends_with("7 passed, 4 failed\n"));
+}
