@@ -48,7 +48,7 @@ static bool read_bytes(struct bytes *bytes, int file, size_t most)
 	size_t room = 0;
 	for (;;) {
 		if (bytes->length == room) {
-			room = room < 32768 ? 65536 : 2 * room;
+			room = room ? 2 * room : 65536;
 			if (!make_room(bytes, room))
 				return false;
 		}

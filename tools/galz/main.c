@@ -77,7 +77,7 @@ static bool take_value(unsigned option, const char *value, struct words *words)
 	switch (option) {
 	case OUTPUT:
 		words->output = value;
-		return *value != 0;
+		return *value && strcmp(value, "-") != 0;
 	case AS:
 		return take_form(value, words);
 	case SLOT:
@@ -96,8 +96,12 @@ static const struct option {
 	unsigned option;
 	bool valued;
 } options[] = {
-	{ "-o", OUTPUT, true },	      { "--as", AS, true },	      { "--slot", SLOT, true }, { "--record-length", RECORD_LENGTH, true },
-	{ "--salvage", SALVAGE, false }, { "--force", FORCE, false },
+	{ "-o", OUTPUT, true },
+	{ "--as", AS, true },
+	{ "--slot", SLOT, true },
+	{ "--record-length", RECORD_LENGTH, true },
+	{ "--salvage", SALVAGE, false },
+	{ "--force", FORCE, false },
 };
 
 static const struct option *option_named(const char *word, unsigned allowed)

@@ -1,8 +1,8 @@
 /* judge and list: what a volume is, and what is on it. */
 #include "galz.h"
 
-/* VOL1 is sector 07 of the index cylinder, whose sectors have 129 bytes, the kind first */
-enum { VOL1 = 6 * 129 + 1 };
+/* the volume's name: VOL1 stands right before slot 1 */
+static const char *volume_name(const struct bytes *image) { return field(image->at + galz_slot_offset(0), 5); }
 
 /* the number of so many digits, or of spaces in their stead */
 static unsigned number(const galz_u8 *label, unsigned position, unsigned digits, unsigned blank)
@@ -42,7 +42,7 @@ enum status judge(struct bytes *image, const struct words *words)
 	galz_u64 volume = galz_judge(image->at, image->length);
 	if (galz_refused(volume))
 		return say_refusal(volume);
-	printf("volume %.6s\n", field(image->at + VOL1, 5));
+	printf("volume %.6s\n", volume_name(image));
 	printf("L %u\nI %u\nD %u\nP %u\nS %u\n", galz_cylinders(volume), galz_index_sectors(volume), galz_sectors(volume), galz_record_bytes(volume),
 	       galz_sides(volume));
 	show_defects(volume);
@@ -87,7 +87,7 @@ enum status list(struct bytes *image, const struct words *words)
 	galz_u64 volume = galz_judge(image->at, image->length);
 	if (galz_refused(volume))
 		return list_refusal(volume);
-	printf("VOLUME %.6s L=%u I=%u D=%u P=%u S=%u FREE=%llu\n", field(image->at + VOL1, 5), galz_cylinders(volume), galz_index_sectors(volume),
+	printf("VOLUME %.6s L=%u I=%u D=%u P=%u S=%u FREE=%llu\n", volume_name(image), galz_cylinders(volume), galz_index_sectors(volume),
 	       galz_sectors(volume), galz_record_bytes(volume), galz_sides(volume), galz_number(galz_free(image->at, image->length)));
 	for (unsigned slot = 1; slot <= galz_slots(volume); slot++) {
 		const galz_u8 *label = label_in(image, slot);

@@ -92,8 +92,6 @@ enum status salvage_file(struct bytes *image, const struct words *words)
 	return read_file(image, &salvaging);
 }
 
-enum { NAME = 17 };
-
 /* A host name that is safe anywhere: the slot, so that no two are alike, and of the file's name letters, digits and '-', '_', '.', with '_' for the rest. */
 static void name_host_file(char name[NAME + 4], unsigned slot, const galz_u8 *label)
 {

@@ -1,9 +1,8 @@
 # Wrong usage: status 2, one line on standard error, nothing done.
 
-test_misuse() {
+test_misused_words() {
   fresh
   sample demo
-  cp demo.img "$scratch/before.img"
   ends 2
   misused 'a command is missing'
   ends 2 lists demo.img
@@ -22,6 +21,15 @@ test_misuse() {
   misused 'an operand is missing'
   ends 2 read --slot 3 demo.img LOG
   misused 'one operand too many: LOG'
+  ends 2 extract-all demo.img
+  misused 'an operand is missing'
+  stands demo.img
+}
+
+test_misused_options() {
+  fresh
+  sample demo
+  cp demo.img "$scratch/before.img"
   ends 2 read demo.img LOG --as
   misused 'a value is missing: --as'
   for form in '' line LINES; do
@@ -32,8 +40,10 @@ test_misuse() {
     ends 2 read --slot "$slot" demo.img
     misused 'not a value of the option: --slot'
   done
-  ends 2 read -o '' demo.img LOG
-  misused 'not a value of the option: -o'
+  for output in '' -; do
+    ends 2 read -o "$output" demo.img LOG
+    misused 'not a value of the option: -o'
+  done
   for length in 0 -1 x 4294967296; do
     ends 2 write --as raw --record-length "$length" demo.img LOG /dev/null
     misused 'not a value of the option: --record-length'
@@ -46,8 +56,6 @@ test_misuse() {
   misused 'an image from standard input needs -o'
   ends 2 write -o x - LOG -
   misused 'image and host file cannot both be standard input'
-  ends 2 extract-all demo.img
-  misused 'an operand is missing'
   same demo.img "$scratch/before.img"
   stands demo.img
 }

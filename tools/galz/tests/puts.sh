@@ -172,6 +172,8 @@ test_closed() {
 test_signals() {
   fresh
   sample F-4900
+  # records of one byte, more than a million: none of the runs comes to its end
+  poke F-4900.img "$(label 1 54)" 0001
   for signal in TERM INT HUP; do
     # of a shell without job control a program in the background has INT ignored, which galz respects; so the test asks for it
     set -m

@@ -13,60 +13,58 @@ volume_says() {
   says "galz: refused $1"
 }
 
-# the name of the field stands behind the place, for every judged position: a small a is in none of them
+# every judged position with the name of its field
+fields() {
+  cat <<'END'
+VOL1 1 the label's name, VOL1
+VOL1 5 the volume's name
+VOL1 11 access to the volume
+VOL1 38 the owner's name
+VOL1 72 the type of recording, A
+VOL1 76 the code of the physical record's length P
+VOL1 77 the sequence of sectors
+VOL1 79 the version of the standard, 3
+VOL1 81 the last data cylinder L
+VOL1 83 the last sector of an index side I
+VOL1 85 the last sector of a data side D
+VOL1 89 the number of sides S
+ERMAP 1 the label's name, ERMAP
+ERMAP 7 the first defective cylinder
+ERMAP 11 the second defective cylinder
+HDR1 6 the file's name
+HDR1 23 the block length B
+HDR1 29 the start of the extent
+HDR1 35 the end of the extent
+HDR1 40 the record format
+HDR1 41 the bypass mark
+HDR1 42 access to the file
+HDR1 43 the write protection
+HDR1 44 the level
+HDR1 45 the mark of a file on several volumes
+HDR1 46 the number of the file's section
+HDR1 48 the date of creation
+HDR1 54 the record length R
+HDR1 58 the unused count U
+HDR1 63 the blocking
+HDR1 64 the organization of the file
+HDR1 67 the expiry date
+HDR1 73 the mark of checking or copying
+HDR1 75 the data end
+END
+}
+
+# the name of the field stands behind the place, for every judged position: a small a is right in none of them
 test_fields() {
   fresh
   sample demo
-  local position name
-  while read -r position name; do
-    broken "$(vol1 "$position")" a
-    volume_says "3 (position $position): a rule of the label VOL1 is broken: $name"
-  done <<'END'
-1 the label's name, VOL1
-5 the volume's name
-11 access to the volume
-38 the owner's name
-72 the type of recording, A
-76 the code of the physical record's length P
-77 the sequence of sectors
-79 the version of the standard, 3
-81 the last data cylinder L
-83 the last sector of an index side I
-85 the last sector of a data side D
-89 the number of sides S
-END
-  while read -r position name; do
-    broken "$(ermap "$position")" a
-    volume_says "7 (position $position): a rule of the label ERMAP is broken: $name"
-  done <<'END'
-1 the label's name, ERMAP
-7 the first defective cylinder
-11 the second defective cylinder
-END
-  while read -r position name; do
-    broken "$(label 3 "$position")" a
-    volume_says "10 (slot 3, position $position): a rule of the label HDR1 is broken: $name"
-  done <<'END'
-6 the file's name
-23 the block length B
-29 the start of the extent
-35 the end of the extent
-40 the record format
-41 the bypass mark
-42 access to the file
-43 the write protection
-44 the level
-45 the mark of a file on several volumes
-46 the number of the file's section
-48 the date of creation
-54 the record length R
-58 the unused count U
-63 the blocking
-64 the organization of the file
-67 the expiry date
-73 the mark of checking or copying
-75 the data end
-END
+  local table position name
+  while read -r table position name; do
+    case $table in
+    VOL1) broken "$(vol1 "$position")" a && volume_says "3 (position $position): a rule of the label VOL1 is broken: $name" ;;
+    ERMAP) broken "$(ermap "$position")" a && volume_says "7 (position $position): a rule of the label ERMAP is broken: $name" ;;
+    HDR1) broken "$(label 3 "$position")" a && volume_says "10 (slot 3, position $position): a rule of the label HDR1 is broken: $name" ;;
+    esac
+  done < <(fields)
 }
 
 test_volumes() {

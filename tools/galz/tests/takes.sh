@@ -99,7 +99,19 @@ test_salvage() {
   stands demo.img saved whole
   sample S-10-lost
   ends 1 salvage --slot 1 S-10-lost.img --as lengths
-  holds 'as many answers as the independent program gives' [ "$(tail -n 1 "$scratch/err" | awk '{ print $3 + $7, $5 + 0 }')" = "$("$compare" given salvage <S-10-lost.img)" ]
+  sums=$(tail -n 1 "$scratch/err" | awk '{ print $3 + $7, $5 + 0 }')
+  holds 'as many answers and bytes as the independent program gives' [ "$sums" = "$("$compare" given salvage <S-10-lost.img)" ]
+}
+
+# The rest of a record that began before the gap is dropped: block 0 has the first part of a record of 700 bytes. 01104 is the last sector of physical
+# cylinder 2, as cylinder 1 is defective.
+test_dropped() {
+  fresh
+  sample two-sided
+  poke two-sided.img $((16 * 129 + 15 * 257)) '\x21'
+  ends 1 salvage --slot 2 two-sided.img
+  holds 'an empty record and one of 100 bytes are had' [ "$(awk '{ printf "%d,", length }' "$scratch/out")" = 0,100, ]
+  says 'galz: gap: block 0 is lost (records so far 0)' 'galz: records 2, bytes 100, gaps 1, blocks lost 1'
 }
 
 # a refusal in the midst: nothing of a host file, the old one stays
