@@ -7,6 +7,7 @@ pub mod drive;
 pub mod edges;
 pub mod file;
 pub mod follow;
+pub mod fuzzed;
 pub mod label;
 pub mod layout;
 pub mod listing;

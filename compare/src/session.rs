@@ -143,7 +143,7 @@ impl Session {
 }
 
 /// Whether a write left what the account of it says.
-fn accounted(case: &Case, outcome: &Outcome) -> Result<(), String> {
+pub fn accounted(case: &Case, outcome: &Outcome) -> Result<(), String> {
     let list = List::of(&case.call);
     let account = |list| holds(&case.image, &outcome.lent[0], &list, outcome.returned);
     list.map_or(Ok(()), account)

@@ -16,6 +16,7 @@ fn text(output: &Output) -> String {
 
 const DRIVEN: &str = env!("CARGO_BIN_EXE_driven");
 const LISTED: &str = env!("CARGO_BIN_EXE_listed");
+const REPLAYED: &str = env!("CARGO_BIN_EXE_replayed");
 const COMPARE: &str = env!("CARGO_BIN_EXE_compare");
 
 fn driven(words: &[&str]) -> Output {
@@ -106,4 +107,16 @@ fn what_is_too_long_for_the_listing_is_said() {
         "--count", "0", "--most", "6000000", "--", COMPARE, "listing",
     ];
     assert!(text(&run(LISTED, &all)).ends_with("7 passed, 4 failed\n"));
+}
+
+#[test]
+fn the_kept_inputs_reach_every_refusal_and_find_what_is_wrong() {
+    let kept = ["fuzz/seeds.txt", "--", COMPARE, "serve"];
+    let right = run(REPLAYED, &kept);
+    assert!(right.status.success());
+    assert!(text(&right).ends_with(" passed, 0 failed\n"));
+    let wrong = run(REPLAYED, &[&kept[..], &["--wrong", "1000"]].concat());
+    assert_eq!(wrong.status.code(), Some(1));
+    assert!(text(&wrong).contains("\ndifferent: "));
+    assert_eq!(run(REPLAYED, &["fuzz/seeds.txt"]).status.code(), Some(2));
 }
