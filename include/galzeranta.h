@@ -1,17 +1,19 @@
 /*
  * Galzeranta: exchange diskettes of GOST 28081-89 as files. The library's C side.
  *
- * Link libgalzeranta.a ('rt staticlib galzeranta'; x86-64, System V calls). This header includes nothing and asks for no C library, so that a kernel
- * module takes it as it is: galz_u8, galz_u32 and galz_u64 are the types that kernels know as u8, u32 and u64. The archive wants memset; it uses SSE
- * registers and the red zone, which a kernel has to allow around a call.
+ * Link libgalzeranta.a (x86-64, System V calls). This header includes nothing and asks for no C library, so that a kernel module takes it as it is: galz_u8,
+ * galz_u32 and galz_u64 are the types that kernels know as u8, u32 and u64. All that the archive wants is memset. There are two of it, from the same proved
+ * code: a program links that of 'rt staticlib galzeranta', which uses SSE registers, the red zone and a stack aligned to 16; a kernel that of
+ * '.ci/kernel-archive', which uses none of them. docs/CALLING.md says what a caller in a kernel owes and gets.
  *
  * A slice is a pointer and the count of its elements. Every call takes any bytes, of any length, and any numbers: nothing has to be tested first, and
- * nothing is kept after the call. A pointer of a slice is never NULL, not even where the count is 0. No call here changes a byte that it is lent, but
- * for 'out' of galz_read and galz_salvage and the image of galz_write, which no other slice of the call may overlap.
+ * nothing is kept after the call. A pointer of a slice is never NULL, not even where the count is 0, and one of galz_u32 stands at a multiple of 4. No call
+ * here changes a byte that it is lent, but for 'out' of galz_read and galz_salvage and the image of galz_write, which no other slice of the call may overlap.
+ * Nobody else writes to lent bytes during a call, or reads those that it may change.
  *
  * Every call returns one number. Its top byte is the code: 0 if it was done, 1 to 127 the number of the refusal; reading and salvage have 128 for a gap
  * and 129 for the file's end, which are no refusals. What stands in the 56 bits below depends on the code and the call; the functions at the end take it
- * apart.
+ * apart, and above each group of them stands where its bits are.
  */
 #ifndef GALZERANTA_H
 #define GALZERANTA_H
@@ -28,14 +30,23 @@ typedef unsigned long long galz_u64;
 typedef char galz_u32_has_4_bytes[sizeof(galz_u32) == 4 ? 1 : -1];
 typedef char galz_u64_has_8_bytes[sizeof(galz_u64) == 8 ? 1 : -1];
 
+/* sizes that the rules fix: a name, a label, the shortest and the longest image that can be accepted */
+enum { GALZ_NAME = 17, GALZ_LABEL = 128, GALZ_SHORTEST = 1548, GALZ_LONGEST = 5283408 };
+
+/* codes that are neither 'done' nor a refusal */
+enum { GALZ_GAP = 128, GALZ_END = 129 };
+
+/* the most bytes of stack that a call uses, its return address included and memset's own use not (.ci/archive holds it) */
+enum { GALZ_STACK = 3072 };
+
 /*
  * The judgement of a volume. Done: its numbers, which galz_cylinders and the functions beside it give. Refused: 1 to 12.
  */
 galz_u64 galz_judge(const galz_u8 *image, galz_u64 image_length);
 
 /*
- * The file of a name, of 17 bytes, among labels of level space, 1 and 2. Done: its slot and where its label begins in the image (galz_slot, galz_offset);
- * the label is the 128 bytes from there. Refused: 1 to 13; a name of another length is the name of no file.
+ * The file of a name, of GALZ_NAME bytes, among labels of level space, 1 and 2. Done: its slot and where its label begins in the image (galz_slot, galz_offset);
+ * the label is the GALZ_LABEL bytes from there. Refused: 1 to 13; a name of another length is the name of no file.
  */
 galz_u64 galz_find(const galz_u8 *image, galz_u64 image_length, const galz_u8 *name, galz_u64 name_length);
 
@@ -133,50 +144,64 @@ galz_u64 galz_write(galz_u8 *image, galz_u64 image_length, galz_u64 slot, const 
  * 26: in F a length that is not R; in V one that is over R once 4 is added to it; in S one over R, unless R is 0000, and any but 0 where B is 5.
  */
 
-/* so many bits of a number, from a bit on */
-static inline galz_u64 galz_bits(galz_u64 answer, unsigned from, unsigned count)
+/* so many bits of a number, from a bit on; bit 0 is the lowest */
+static inline galz_u64 galz_bits(galz_u64 answer, unsigned int from, unsigned int count)
 {
 	return (answer >> from) & ((1ULL << count) - 1);
 }
 
-/* any answer: the code; whether the call was done, in reading with a record; whether it was refused */
-static inline unsigned galz_code(galz_u64 answer) { return (unsigned)galz_bits(answer, 56, 8); }
+/*
+ * Any answer. The code, bits 56-63; whether the call was done, in reading with a record; whether it was refused. Of galz_done, galz_refused, galz_is_gap and
+ * galz_is_end exactly one holds.
+ */
+static inline unsigned int galz_code(galz_u64 answer) { return (unsigned int)galz_bits(answer, 56, 8); }
 static inline int galz_done(galz_u64 answer) { return galz_code(answer) == 0; }
 static inline int galz_refused(galz_u64 answer) { return galz_code(answer) >= 1 && galz_code(answer) <= 127; }
 
-/* a refusal: its places */
+/*
+ * A refusal: its places, as the table above names them. The first in bits 24-55, the second in bits 4-23, the third in bits 0-3; 0 where it has none. No
+ * refusal in the table has a third.
+ */
 static inline galz_u64 galz_first(galz_u64 answer) { return galz_bits(answer, 24, 32); }
 static inline galz_u64 galz_second(galz_u64 answer) { return galz_bits(answer, 4, 20); }
 static inline galz_u64 galz_third(galz_u64 answer) { return galz_bits(answer, 0, 4); }
 
-/* galz_judge: data cylinders L; sectors of an index side I; sectors of a data side D; the bytes of a physical record P, 128 << k; sides S; the first and
-   the second defective cylinder, 0 where there is none */
-static inline unsigned galz_cylinders(galz_u64 answer) { return (unsigned)galz_bits(answer, 0, 8); }
-static inline unsigned galz_index_sectors(galz_u64 answer) { return (unsigned)galz_bits(answer, 8, 8); }
-static inline unsigned galz_sectors(galz_u64 answer) { return (unsigned)galz_bits(answer, 16, 8); }
-static inline unsigned galz_size_code(galz_u64 answer) { return (unsigned)galz_bits(answer, 24, 4); }
-static inline unsigned galz_record_bytes(galz_u64 answer) { return 128u << galz_size_code(answer); }
-static inline unsigned galz_sides(galz_u64 answer) { return (unsigned)galz_bits(answer, 28, 4); }
-static inline unsigned galz_defect_1(galz_u64 answer) { return (unsigned)galz_bits(answer, 32, 8); }
-static inline unsigned galz_defect_2(galz_u64 answer) { return (unsigned)galz_bits(answer, 40, 8); }
+/*
+ * galz_judge, done. Bits 0-7 the data cylinders L (1 to 96), 8-15 the sectors of an index side I (8 to 26), 16-23 the sectors of a data side D (1 to 26), 24-27
+ * the size code k (0 to 3) of a physical record's bytes P = 128 << k, 28-31 the sides S (1, 2), 32-39 and 40-47 the first and the second defective cylinder,
+ * 0 where there is none. The image has S*I*129 + (L+3)*S*D*(P+1) bytes; its slots are 1 to S*I-7.
+ */
+static inline unsigned int galz_cylinders(galz_u64 answer) { return (unsigned int)galz_bits(answer, 0, 8); }
+static inline unsigned int galz_index_sectors(galz_u64 answer) { return (unsigned int)galz_bits(answer, 8, 8); }
+static inline unsigned int galz_sectors(galz_u64 answer) { return (unsigned int)galz_bits(answer, 16, 8); }
+static inline unsigned int galz_size_code(galz_u64 answer) { return (unsigned int)galz_bits(answer, 24, 4); }
+static inline unsigned int galz_record_bytes(galz_u64 answer) { return 128u << galz_size_code(answer); }
+static inline unsigned int galz_sides(galz_u64 answer) { return (unsigned int)galz_bits(answer, 28, 4); }
+static inline unsigned int galz_defect_1(galz_u64 answer) { return (unsigned int)galz_bits(answer, 32, 8); }
+static inline unsigned int galz_defect_2(galz_u64 answer) { return (unsigned int)galz_bits(answer, 40, 8); }
 
-/* galz_judge too: how many label slots the volume has; their numbers begin with 1. And where the body of a slot's sector begins in an accepted image: the byte
-   before it is the sector's kind, 0 for a label, whose 128 bytes follow; any other kind is a deleted slot's. */
-static inline unsigned galz_slots(galz_u64 answer) { return galz_index_sectors(answer) * galz_sides(answer) - 7; }
+/*
+ * galz_judge too: how many label slots the volume has; their numbers begin with 1. And where the body of a slot's sector begins in an accepted image: the byte
+ * before it is the sector's kind, 0 for a label, whose GALZ_LABEL bytes follow; any other kind is a deleted slot's.
+ */
+static inline unsigned int galz_slots(galz_u64 answer) { return galz_index_sectors(answer) * galz_sides(answer) - 7; }
 static inline galz_u64 galz_slot_offset(galz_u64 slot) { return (slot + 6) * 129 + 1; }
 
-/* galz_find: the slot, and where the label begins in the image */
+/* galz_find, done. Bits 24-55 the slot, from 1; bits 0-23 where the label begins in the image, in bytes from 0 */
 static inline galz_u64 galz_slot(galz_u64 answer) { return galz_bits(answer, 24, 32); }
 static inline galz_u64 galz_offset(galz_u64 answer) { return galz_bits(answer, 0, 24); }
 
-/* galz_count, galz_free, galz_write: the number */
+/* galz_count, galz_free, galz_write, done. Bits 0-55 the number */
 static inline galz_u64 galz_number(galz_u64 answer) { return galz_bits(answer, 0, 56); }
 
 /* galz_read, galz_salvage: whether the answer is a gap (of galz_salvage alone), or End */
-static inline int galz_is_gap(galz_u64 answer) { return galz_code(answer) == 128; }
-static inline int galz_is_end(galz_u64 answer) { return galz_code(answer) == 129; }
+static inline int galz_is_gap(galz_u64 answer) { return galz_code(answer) == GALZ_GAP; }
+static inline int galz_is_end(galz_u64 answer) { return galz_code(answer) == GALZ_END; }
 
-/* a record: its length, 0 for gap and End; record, gap and End: the next place, its mark being 0 or 1 */
+/*
+ * A record, gap or End. Bits 32-55 the record's length, 0 for gap and End; the next place: bits 16-31 its block, bits 1-15 its offset, bit 0 its mark. Every
+ * place of a file fits: a file has at most 4,992 blocks, and a block at most 26,624 bytes.
+ */
 static inline galz_u64 galz_length(galz_u64 answer) { return galz_bits(answer, 32, 24); }
 static inline galz_u64 galz_next_block(galz_u64 answer) { return galz_bits(answer, 16, 16); }
 static inline galz_u64 galz_next_offset(galz_u64 answer) { return galz_bits(answer, 1, 15); }
