@@ -14,7 +14,7 @@
 #include <stdlib.h>
 #include <string.h>
 
-enum { LONGEST = 5283408, NAME = 17, RECORDS = 6, RECORD = 90, MOST = 4096 };
+enum { RECORDS = 6, RECORD = 90, MOST = 4096 };
 
 struct image {
 	galz_u8 *bytes;
@@ -26,11 +26,11 @@ struct image {
 
 static struct image load(const char *path)
 {
-	static galz_u8 bytes[LONGEST];
+	static galz_u8 bytes[GALZ_LONGEST];
 	struct image image = { bytes, 0 };
 	FILE *file = fopen(path, "rb");
 	EXPECT(file);
-	image.length = fread(bytes, 1, LONGEST, file);
+	image.length = fread(bytes, 1, GALZ_LONGEST, file);
 	EXPECT(!ferror(file) && fclose(file) == 0);
 	return image;
 }
@@ -55,9 +55,9 @@ static galz_u64 list(struct image image)
 
 static galz_u64 find(struct image image, const char *file)
 {
-	char name[NAME + 1];
+	char name[GALZ_NAME + 1];
 	snprintf(name, sizeof name, "%-17s", file);
-	galz_u64 found = galz_find(image.bytes, image.length, (const galz_u8 *)name, NAME);
+	galz_u64 found = galz_find(image.bytes, image.length, (const galz_u8 *)name, GALZ_NAME);
 	EXPECT(galz_done(found));
 	EXPECT(memcmp(image.bytes + galz_offset(found), "HDR1", 4) == 0);
 	return galz_slot(found);

@@ -20,8 +20,6 @@ struct bytes {
 	size_t length;
 };
 
-enum { NAME = 17 }; /* the bytes of a file's name */
-
 enum form { LINES, LENGTHS, RAW };
 
 /* What the command line says. What was not said is 0. */

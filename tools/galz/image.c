@@ -3,10 +3,8 @@
 
 #include <string.h>
 
-enum { LONGEST = 5283408 };
-
 /* One byte more than the longest image is enough: 1 to 4 are judged within the first 903 bytes, and to 5 any length above the longest is the same. */
-bool load_image(struct bytes *image, const char *path) { return load(image, path, LONGEST + 1); }
+bool load_image(struct bytes *image, const char *path) { return load(image, path, GALZ_LONGEST + 1); }
 
 const galz_u8 *label_in(const struct bytes *image, unsigned slot)
 {
@@ -20,14 +18,14 @@ bool is_known(const galz_u8 *label) { return strchr(" 12", *field(label, 44)) !=
 
 static galz_u64 find_name(const struct bytes *image, const char *file)
 {
-	char name[NAME];
+	char name[GALZ_NAME];
 	size_t length = strlen(file);
 	/* a longer name is asked as it is: the name of no file */
-	if (length > NAME)
+	if (length > GALZ_NAME)
 		return galz_find(image->at, image->length, (const galz_u8 *)file, length);
-	memset(name, ' ', NAME);
+	memset(name, ' ', GALZ_NAME);
 	memcpy(name, file, length);
-	return galz_find(image->at, image->length, (const galz_u8 *)name, NAME);
+	return galz_find(image->at, image->length, (const galz_u8 *)name, GALZ_NAME);
 }
 
 enum status find_slot(const struct bytes *image, const struct words *words, galz_u64 *slot)

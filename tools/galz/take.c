@@ -93,14 +93,14 @@ enum status salvage_file(struct bytes *image, const struct words *words)
 }
 
 /* A host name that is safe anywhere: the slot, so that no two are alike, and of the file's name letters, digits and '-', '_', '.', with '_' for the rest. */
-static void name_host_file(char name[NAME + 4], unsigned slot, const galz_u8 *label)
+static void name_host_file(char name[GALZ_NAME + 4], unsigned slot, const galz_u8 *label)
 {
 	static const char safe[] = "ABCDEFGHIJKLMNOPQRSTUVWXYZ0123456789-_.";
 	const char *from = field(label, 6);
-	size_t length = is_known(label) ? NAME : 0;
+	size_t length = is_known(label) ? GALZ_NAME : 0;
 	while (length > 0 && from[length - 1] == ' ')
 		length--;
-	size_t at = (size_t)snprintf(name, NAME + 4, length ? "%02u-" : "%02u", slot % 100);
+	size_t at = (size_t)snprintf(name, GALZ_NAME + 4, length ? "%02u-" : "%02u", slot % 100);
 	for (size_t i = 0; i < length; i++)
 		name[at + i] = memchr(safe, from[i], sizeof safe - 1) ? from[i] : '_';
 	name[at + length] = 0;
@@ -109,7 +109,7 @@ static void name_host_file(char name[NAME + 4], unsigned slot, const galz_u8 *la
 /* a line of the table: slot, name, result, records, bytes, gaps, host file */
 static void show_result(unsigned slot, const galz_u8 *label, enum status status, const struct tally *tally, const char *name)
 {
-	printf("%u|%.*s|", slot, is_known(label) ? NAME : 1, is_known(label) ? field(label, 6) : "?");
+	printf("%u|%.*s|", slot, is_known(label) ? GALZ_NAME : 1, is_known(label) ? field(label, 6) : "?");
 	if (status == DONE)
 		printf("%s|%llu|%llu|%llu|%s\n", tally->gaps ? "gaps" : "done", tally->records, tally->bytes, tally->gaps, name);
 	else if (status == REFUSED)
@@ -121,7 +121,7 @@ static void show_result(unsigned slot, const galz_u8 *label, enum status status,
 static enum status extract(const struct bytes *image, unsigned slot, const galz_u8 *label, const struct words *words)
 {
 	struct tally tally = { 0 };
-	char name[NAME + 4];
+	char name[GALZ_NAME + 4];
 	name_host_file(name, slot, label);
 	char *path = malloc(strlen(words->host) + 1 + sizeof name);
 	if (!path)
