@@ -2,7 +2,7 @@
  * Galzeranta: exchange diskettes of GOST 28081-89 as files. The library's C side.
  *
  * Link libgalzeranta.a (x86-64, System V calls). This header includes nothing and asks for no C library, so that a kernel module takes it as it is: galz_u8,
- * galz_u32 and galz_u64 are the types that kernels know as u8, u32 and u64. All that the archive wants is memset. There are two of it, from the same proved
+ * galz_u32 and galz_u64 are the types that kernels know as u8, u32 and u64. All that the archive wants is memset and memcpy. There are two of it, from the same proved
  * code: a program links that of 'rt staticlib galzeranta', which uses SSE registers, the red zone and a stack aligned to 16; a kernel that of
  * '.ci/kernel-archive', which uses none of them. docs/CALLING.md says what a caller in a kernel owes and gets.
  *
@@ -36,8 +36,8 @@ enum { GALZ_NAME = 17, GALZ_LABEL = 128, GALZ_SHORTEST = 1548, GALZ_LONGEST = 52
 /* codes that are neither 'done' nor a refusal */
 enum { GALZ_GAP = 128, GALZ_END = 129 };
 
-/* the most bytes of stack that a call uses, its return address included and memset's own use not (.ci/archive holds it) */
-enum { GALZ_STACK = 3072 };
+/* the most bytes of stack that a call uses, its return address included and the use of memset and memcpy not (.ci/archive holds it) */
+enum { GALZ_STACK = 4096 };
 
 /*
  * The judgement of a volume. Done: its numbers, which galz_cylinders and the functions beside it give. Refused: 1 to 12.

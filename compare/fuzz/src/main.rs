@@ -6,9 +6,19 @@
 use compare::drive::{expected, Driver, Outcome};
 use compare::fuzzed::Bases;
 use compare::make::Case;
+use compare::packed::{code, place_of, refusal_of};
 use compare::session::accounted;
+use compare::Call;
 use std::cell::RefCell;
 use std::io;
+use std::sync::atomic::{AtomicU8, Ordering};
+
+/// Answers that were met. libFuzzer takes this section for counters and keeps
+/// an input that sets a new one: so different numbers count as something new,
+/// though no branch of the Rust program tells them apart.
+#[used]
+#[link_section = "__libfuzzer_extra_counters"]
+static ANSWERS: [AtomicU8; 1 << 14] = [const { AtomicU8::new(0) }; 1 << 14];
 
 struct Judge {
     bases: Bases,
@@ -29,11 +39,34 @@ fn judge() -> Judge {
     }
 }
 
+/// Notes an answer by its call, its code, and two small numbers: the places of
+/// a refusal, the place behind a reading, the defects of a volume, a count.
+fn note(call: &Call, returned: u64) {
+    let next = place_of(returned);
+    let (kind, first, second) = match (call, refusal_of(returned)) {
+        (_, Some(refusal)) => (0, refusal.first, refusal.second / 4),
+        (Call::Read { .. }, None) => (1, next.block, next.offset / 4),
+        (Call::Salvage { .. }, None) if next.mark => (2, next.block, next.offset / 4),
+        (Call::Salvage { .. }, None) => (3, next.block, next.offset / 4),
+        (Call::Judge, None) => (4, returned >> 32 & 0xFF, returned >> 40),
+        (Call::Find { .. }, None) => (5, returned >> 24, 0),
+        _ => (6, returned, 0),
+    };
+    let mut place = u64::from(code(returned));
+    for (number, most) in [(kind, 7), (first, 15), (second, 31)] {
+        place = place * (most + 1) + number.min(most);
+    }
+    ANSWERS[place as usize * 7919 % ANSWERS.len()].store(1, Ordering::Relaxed);
+}
+
 /// What the library did, if the independent program and its account of
 /// writes say the same.
 fn compare(driver: &mut Driver, case: &Case) -> io::Result<Option<Outcome>> {
     let right = expected(&case.image, &case.call);
     let is = driver.ask(&case.image, &case.call)?;
+    if let Some(is) = &is {
+        note(&case.call, is.returned);
+    }
     Ok(is.filter(|is| right.as_ref() == Some(is) && accounted(case, is).is_ok()))
 }
 
