@@ -12,13 +12,13 @@ use native.Mathlib.Numerals.{unary-clauses}
 use borrow.Author.Tests.{eqb-true, ne-eqb, ltb-false}
 use Rattle.standard.specs.Layout.{kAt, kindAt, incorrectMark, checkFailed}
 use Rattle.standard.specs.Addresses.{ordinal, stepped}
-use Rattle.standard.specs.Files.{addressesFrom, isDefective, goodAmong, anyFailed}
+use Rattle.standard.specs.Files.{isDefective, anyFailed}
 use Rattle.standard.specs.declared.Geometry.{Geometry}
 use Rattle.standard.specs.declared.Address.{Address}
 use Rattle.promises.specs.Basics.{by-test}
 use Rattle.extents.specs.Cursors.{goodFrom, standingFrom, standing}
 use Rattle.extents.specs.declared.Cursor.{Cursor}
-use Rattle.extents.proofs.CursorLaws.{good-skip, good-none, stand-none}
+use Rattle.extents.proofs.CursorLaws.{good-skip, good-first, good-none, stand-none}
 
 module _ (g : Geometry) (image : List ℕ) where
   -- the first one, then the others
@@ -62,16 +62,11 @@ module _ (g : Geometry) (image : List ℕ) where
       let e = eqb-true (kindAt g image n) (32 + kAt g n) h in
       simp (ne-eqb (kindAt g image n) (16 + kAt g n) (λ (f : kindAt g image n ≡ 16 + kAt g n). omega (arith, e, f)))
 
-  good-first : (left : ℕ) (a : Address) → 0 < left → isDefective g image a ≡ false → goodFrom g image left a ≡ (a ∷ goodFrom g image (left - 1) (stepped g a))
-  unfolding goodAmong addressesFrom
-  good-first zero a l h = absurd (omega arith)
-  good-first (suc n) a l h = simp (unary-clauses, h)
-
   -- ONE TURN OF A WALK: over a record that is not check-failed, which counts if it is good
   pub failed-stop : (n left : ℕ) (a : Address) → 0 < n → 0 < left → checkFailed g image (ordinal g a) ≡ true → anyFailed g image (take n (goodFrom g image left a)) ≡ true
   unfolding anyFailed
   failed-stop zero left a k l h = absurd (omega arith)
-  failed-stop (suc n) left a k l h = rw (good-first left a l (failed-good a h)) (simp h)
+  failed-stop (suc n) left a k l h = rw (good-first g image left a l (failed-good a h)) (simp h)
 
   pub failed-more : (n left : ℕ) (a : Address) → 0 < n → 0 < left → checkFailed g image (ordinal g a) ≡ false
       → anyFailed g image (take n (goodFrom g image left a)) ≡ anyFailed g image (take (n - cond (isDefective g image a) 0 1) (goodFrom g image (left - 1) (stepped g a)))
@@ -81,7 +76,7 @@ module _ (g : Geometry) (image : List ℕ) where
       let z : suc n - 0 ≡ suc n = omega arith in
       by-test (isDefective g image a)
       (λ (d : isDefective g image a ≡ true). rw (d, z) (ap (λ (s : List Address). anyFailed g image (take (suc n) s)) (sym (good-skip g image left a l d))))
-      (λ (d : isDefective g image a ≡ false). rw (good-first left a l d, d) (simp (unary-clauses, h)))
+      (λ (d : isDefective g image a ≡ false). rw (good-first g image left a l d, d) (simp (unary-clauses, h)))
 
   -- nothing is left to ask, or nobody
   none-left : (n left : ℕ) (a : Address) → left ≤ 0 → anyFailed g image (take n (goodFrom g image left a)) ≡ false

@@ -11,7 +11,7 @@ use standard::Geometry;
 use standard::wide;
 ghost use mathlib.Core.Path.{_≡_};
 ghost use mathlib.Core.Bool.{true, false, cond};
-ghost use Prim.Native.Nat.{_+_, _<_, _≤_};
+ghost use Prim.Native.Nat.{_+_, _-_, _<_, _≤_};
 ghost use lib.ListN.{length, drop};
 ghost use Rattle.standard.specs.Layout.{kindOffset};
 ghost use Rattle.standard.specs.Addresses.{legal, ordinal};
@@ -86,64 +86,6 @@ pub fn survey(g: Geometry, image: &[u8], from: Cursor) -> Condition
     Condition::Whole
 }
 
-// Onward past the defective records.
-pub fn to_good(g: Geometry, image: &[u8], from: Cursor) -> Cursor
-    requires { ⌜ legalAt g from ≡ true ⌝ }
-    ensures { λ r. ⌜ (standing g (now (image .entry)) r ≡ goodFrom g (now (image .entry)) (from .left) (from .at)) × (legalAt g r ≡ true) × (r .left ≤ from .left) ⌝ }
-{
-    let mut at = from.at;
-    let mut left = from.left;
-    if left == 0 {
-        return from;
-    }
-    let mut o = kind_of(g, at);
-    while 0 < left {
-        let bad = is_defective(g, image, at, o);
-        if !bad {
-            return Cursor { at: at, left: left };
-        }
-        let next = at.step(g);
-        o = kind_after(g, at, next, o);
-        at = next;
-        left -= 1;
-    }
-    Cursor { at: at, left: 0 }
-}
-
-// The next good record.
-pub fn next_good(g: Geometry, image: &[u8], c: Cursor) -> Cursor
-    requires { ⌜ (legalAt g c ≡ true) × (1 ≤ c .left) ⌝ }
-    ensures { λ r. ⌜ (standing g (now (image .entry)) r ≡ drop 1 (standing g (now (image .entry)) c)) × (legalAt g r ≡ true) × (r .left < c .left) ⌝ }
-{
-    let at = c.at;
-    let left = c.left;
-    to_good(
-        g,
-        image,
-        Cursor {
-            at: at.step(g),
-            left: left - 1,
-        },
-    )
-}
-
-// Past n good records, by a walk.
-pub fn skip_good(g: Geometry, image: &[u8], from: Cursor, n: u64) -> Cursor
-    requires { ⌜ legalAt g from ≡ true ⌝ }
-    ensures { λ r. ⌜ (standing g (now (image .entry)) r ≡ drop n (standing g (now (image .entry)) from)) × (legalAt g r ≡ true) × (r .left ≤ from .left) ⌝ }
-{
-    let mut c = from;
-    let mut i = 0;
-    while i < n {
-        if c.left == 0 {
-            return c;
-        }
-        c = next_good(g, image, c);
-        i += 1;
-    }
-    c
-}
-
 // What a record counts: 1 if it is good, 0 if it is defective.
 pub fn one_unless(defective: bool) -> u64
     ensures { λ r. ⌜ (r ≡ cond defective 0 1) × (r ≤ 1) ⌝ }
@@ -152,6 +94,73 @@ pub fn one_unless(defective: bool) -> u64
         return 0;
     }
     1
+}
+
+// Onward to the good record behind n other good ones, from an address on whose kind stands at `start`. Each record stands behind the one before, but where
+// the track ends.
+fn past_good(g: Geometry, image: &[u8], from: Cursor, start: u64, n: u64) -> Cursor
+    requires { ⌜ (legalAt g from ≡ true) × (start ≡ kindOffset g (ordinal g (from .at))) ⌝ }
+    ensures { λ r. ⌜ (standing g (now (image .entry)) r ≡ drop n (goodFrom g (now (image .entry)) (from .left) (from .at))) × (legalAt g r ≡ true) × (r .left ≤ from .left) ⌝ }
+{
+    let mut at = from.at;
+    let mut left = from.left;
+    let mut o = start;
+    let mut i = n;
+    while 0 < left {
+        let bad = is_defective(g, image, at, o);
+        if !bad & (i == 0) {
+            return Cursor { at: at, left: left };
+        }
+        i -= one_unless(bad);
+        let next = at.step(g);
+        o = kind_after(g, at, next, o);
+        at = next;
+        left -= 1;
+    }
+    Cursor { at: at, left: 0 }
+}
+
+// Onward past the defective records.
+pub fn to_good(g: Geometry, image: &[u8], from: Cursor) -> Cursor
+    requires { ⌜ legalAt g from ≡ true ⌝ }
+    ensures { λ r. ⌜ (standing g (now (image .entry)) r ≡ goodFrom g (now (image .entry)) (from .left) (from .at)) × (legalAt g r ≡ true) × (r .left ≤ from .left) ⌝ }
+{
+    if from.left == 0 {
+        return from;
+    }
+    past_good(g, image, from, kind_of(g, from.at), 0)
+}
+
+// Past n good records.
+pub fn skip_good(g: Geometry, image: &[u8], from: Cursor, n: u64) -> Cursor
+    requires { ⌜ legalAt g from ≡ true ⌝ }
+    ensures { λ r. ⌜ (standing g (now (image .entry)) r ≡ drop n (standing g (now (image .entry)) from)) × (legalAt g r ≡ true) × (r .left ≤ from .left) × (0 < n → r .left ≤ from .left - 1) ⌝ }
+{
+    let at = from.at;
+    let left = from.left;
+    if (n == 0) | (left == 0) {
+        return from;
+    }
+    let next = at.step(g);
+    let o = kind_after(g, at, next, kind_of(g, at));
+    past_good(
+        g,
+        image,
+        Cursor {
+            at: next,
+            left: left - 1,
+        },
+        o,
+        n - 1,
+    )
+}
+
+// The next good record.
+pub fn next_good(g: Geometry, image: &[u8], c: Cursor) -> Cursor
+    requires { ⌜ (legalAt g c ≡ true) × (1 ≤ c .left) ⌝ }
+    ensures { λ r. ⌜ (standing g (now (image .entry)) r ≡ drop 1 (standing g (now (image .entry)) c)) × (legalAt g r ≡ true) × (r .left < c .left) ⌝ }
+{
+    skip_good(g, image, c, 1)
 }
 
 // The number of good records.

@@ -1,65 +1,84 @@
+-- The record under the cursor, and then as many good ones behind it as are left to pass.
 -- Assumes nothing.
-use lib.Seq.{drop-drop}
-use denote.Ref.{now}
-use mathlib.Core.Path.{_≡_, _∙_, sym, ap}
-use mathlib.Core.Bool.{true}
-use Prim.Native.Nat.{ℕ, _≤_, _-_}
-use native.Mathlib.Omega.{arith}
-use borrow.Author.Needs.{needs}
+use Prim.Native.Nat.{ℕ, _+_, _-_}
+use mathlib.Core.Path.{_≡_, ap, _∙_}
 use lib.ListN.{drop}
-use Rattle.extents.specs.Cursors.{legalAt, standing}
-use Rattle.extents.proofs.CursorLaws.{stand-none, drop-past}
+use lib.Seq.{drop-drop}
+use native.Mathlib.Omega.{arith}
+use denote.Ref.{now}
+use borrow.Author.Needs.{needs}
+use Rattle.standard.specs.declared.Address.{Address}
+use Rattle.extents.specs.Cursors.{legalOn, goodFrom, standing}
+use Rattle.extents.proofs.CursorLaws.{some-of, skip-none, legal-head, legal-next, stand-next}
 use Rattle.extents.proofs.skip_good.Statement.{statement}
 use Rattle.extents.proofs.skip_good.Tie as tie
 
-abbrev Inv-loop : tie.InvT-loop
-Inv-loop g image n c₀ i₀ c i = (standing g image c ≡ drop i (standing g image c₀)) × (legalAt g c ≡ true) × (c .left ≤ c₀ .left) × (i ≤ n)
-
-abbrev μ-loop : tie.MeasureT-loop
-μ-loop g image n c₀ i₀ c i = n - i
-
-loop-holds : tie.Need-loop-holds Inv-loop μ-loop
-loop-holds c = search needs
-
-returns : tie.Need-returns Inv-loop μ-loop
+returns : tie.Need-returns
 returns c =
-    let x = c .before .before .before .before .before .args in
-    let w = c .before .before .before .loop in
-    let e = stand-none (x .g) (now (x .image)) (w .c) (omega arith) in
-    (e ∙ sym (drop-past (w .i) (x .n) (standing (x .g) (now (x .image)) (x .from)) (w .inv .3) (sym (w .inv .0) ∙ e)), w .inv .1, w .inv .2)
+    let c3 = c .before .before .before in
+    let x = c3 .args in
+    let s = skip-none (x .g) (now (x .image)) (x .from) (x .n) (c .if1 .taken) in
+    (s .0, c3 .pre, omega arith, s .1)
 
-next-good-requires : tie.Need-next-good-requires Inv-loop μ-loop
-next-good-requires c κs = search needs
+step-requires : tie.Need-step-requires
+step-requires c κs = search needs
 
-add-i : tie.Need-add-i Inv-loop μ-loop
-add-i c = search needs
+kind-of-requires : tie.Need-kind-of-requires
+kind-of-requires c κs =
+    let c4 = c .before .before .before .before in
+    let x = c4 .args in
+    legal-head _ _ _ (some-of (x .n) (x .from .left) (c .before .if1 .left) .1) (c4 .pre)
 
-loop-less : tie.Need-loop-less Inv-loop μ-loop
-loop-less c = search needs
+kind-after-requires : tie.Need-kind-after-requires
+kind-after-requires c κs =
+    let c5 = c .before .before .before .before .before in
+    let x = c5 .args in
+    (legal-head _ _ _ (some-of (x .n) (x .from .left) (c .before .before .if1 .left) .1) (c5 .pre), c .before .step .ensures, c .kind-of .ensures .0)
 
-loop-again : tie.Need-loop-again Inv-loop μ-loop
-loop-again c =
-    let x = c .before .before .before .before .before .before .args in
-    let w = c .before .before .before .before .loop in
-    (c .next-good .ensures .0 ∙ (ap (drop 1) (w .inv .0) ∙ drop-drop 1 (w .i) (standing (x .g) (now (x .image)) (x .from))), c .next-good .ensures .1, omega (arith, w .inv .2, c .next-good .ensures .2), omega arith)
+sub-t12 : tie.Need-sub-t12
+sub-t12 c =
+    let c3 = c .before .before .before in
+    let x = c3 .before .before .before .args in
+    omega (arith, some-of (x .n) (x .from .left) (c3 .if1 .left) .1)
 
-returns-2 : tie.Need-returns-2 Inv-loop μ-loop
+sub-past-good : tie.Need-sub-past-good
+sub-past-good c =
+    let c3 = c .before .before .before in
+    let x = c3 .before .before .before .args in
+    omega (arith, some-of (x .n) (x .from .left) (c3 .if1 .left) .0)
+
+past-good-requires : tie.Need-past-good-requires
+past-good-requires c κs =
+    let c3 = c .before .before .before in
+    let c6 = c3 .before .before .before in
+    let x = c6 .args in
+    let s = some-of (x .n) (x .from .left) (c3 .if1 .left) in
+    (ap (legalOn (x .g) (x .from .left - 1)) (c .before .before .step .ensures) ∙ legal-next (x .g) (x .from .left) (x .from .at) (s .1) (c6 .pre), c .kind-after .ensures)
+
+returns-2 : tie.Need-returns-2
 returns-2 c =
-    let x = c .before .before .before .args in
-    let w = c .before .loop in
-    let e : w .i ≡ x .n = omega (arith, w .inv .3) in
-    (w .inv .0 ∙ ap (λ (k : ℕ). drop k (standing (x .g) (now (x .image)) (x .from))) e, w .inv .1, w .inv .2)
+    let c4 = c .before .before .before .before in
+    let x = c4 .before .before .before .args in
+    let g = x .g in
+    let image = now (x .image) in
+    let s = some-of (x .n) (x .from .left) (c4 .if1 .left) in
+    let p = c .past-good .ensures in
+    let m : 1 + (x .n - 1) ≡ x .n = omega (arith, s .0) in
+    (p .0
+    ∙ ap (λ (a : Address). drop (x .n - 1) (goodFrom g image (x .from .left - 1) a)) (c .before .before .before .step .ensures)
+    ∙ ap (drop (x .n - 1)) (stand-next g image (x .from .left) (x .from .at) (s .1))
+    ∙ drop-drop (x .n - 1) 1 (standing g image (x .from))
+    ∙ ap (λ (k : ℕ). drop k (standing g image (x .from))) m, p .1, omega (arith, p .2), λ _. p .2)
 
 pub skip-good-spec : {M : Type 1} → statement M
 skip-good-spec =
     tie.close
     (tie.spec
-    Inv-loop
-    μ-loop
-    loop-holds
     returns
-    next-good-requires
-    add-i
-    loop-less
-    loop-again
+    step-requires
+    kind-of-requires
+    kind-after-requires
+    sub-t12
+    sub-past-good
+    past-good-requires
     returns-2)

@@ -1,6 +1,5 @@
 -- Behind the kind and the body.
 -- Assumes nothing.
-use mathlib.Core.Path.{ap, _∙_}
 use native.Mathlib.Omega.{arith}
 use Rattle.standard.specs.Layout.{bodyOffset}
 use Rattle.layout.proofs.TrackLaws.{offset-low}
