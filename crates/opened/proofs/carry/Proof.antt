@@ -41,7 +41,7 @@ first-seat-requires c κs =
     let c5 = c .before .before .before .before .before in
     let c7 = c5 .before .before in
     let x = c7 .before .before .args in
-    opened-of (now (x .image)) _ (x .slot) _ (sym (c7 .judge .ensures) ∙ c5 .j .given .1) (sym (c .before .before .before .open-in .ensures) ∙ c .before .o2 .given .1)
+    opened-of (now (x .image)) _ _ _ (sym (c7 .judge .ensures) ∙ c5 .j .given .1) (sym (c .before .before .before .open-in .ensures) ∙ c .before .o2 .given .1)
 
 returns-2 : tie.Need-returns-2
 returns-2 c =
