@@ -63,12 +63,16 @@ returns-2 c =
     let image = now (x .image) in
     let s = some-of (x .n) (x .from .left) (c4 .if1 .left) in
     let p = c .past-good .ensures in
-    let m : 1 + (x .n - 1) ≡ x .n = omega (arith, s .0) in
-    (p .0
-    ∙ ap (λ (a : Address). drop (x .n - 1) (goodFrom g image (x .from .left - 1) a)) (c .before .before .before .step .ensures)
-    ∙ ap (drop (x .n - 1)) (stand-next g image (x .from .left) (x .from .at) (s .1))
-    ∙ drop-drop (x .n - 1) 1 (standing g image (x .from))
-    ∙ ap (λ (k : ℕ). drop k (standing g image (x .from))) m, p .1, omega (arith, p .2), λ _. p .2)
+    let m : 1 + (x .n - 1) ≡ x .n = omega (arith, s .0) in (
+      p .0
+          ∙ ap (λ (a : Address). drop (x .n - 1) (goodFrom g image (x .from .left - 1) a)) (c .before .before .before .step .ensures)
+          ∙ ap (drop (x .n - 1)) (stand-next g image (x .from .left) (x .from .at) (s .1))
+          ∙ drop-drop (x .n - 1) 1 (standing g image (x .from))
+          ∙ ap (λ (k : ℕ). drop k (standing g image (x .from))) m,
+      p .1,
+      omega (arith, p .2),
+      λ _. p .2,
+    )
 
 pub skip-good-spec : {M : Type 1} → statement M
 skip-good-spec =
