@@ -1,6 +1,8 @@
 // "An opened file carries the lent image with it, so the read path asks it for record after record." The volume is judged and the file opened once; after
 // that a reading costs the record, not the volume. The work is in `carry` and `answer_on`, which take plain parameters. The functions over the struct are
 // thin: each makes it, takes it apart or passes it on.
+// `read_at` and `salvage_at` take any image, slot and place. What requires `Carries` is for callers in these crates who hold what `open`, `carry` or an answer
+// gave them: numbers of another image could lead a reader out of this one.
 use opening::FileNumbers;
 use opening::Opening;
 use opening::Seat;
