@@ -3,6 +3,7 @@
 use standard::Address;
 use standard::Answer;
 use standard::Counted;
+use standard::Created;
 use standard::FiveDigits;
 use standard::Found;
 use standard::Geometry;
@@ -12,7 +13,7 @@ use standard::Written;
 ghost use mathlib.Core.List.{[]};
 ghost use Rattle.standard.specs.Records.{plain, salvage as salvaging};
 ghost use Rattle.galzeranta.specs.Asked.{placeOf};
-ghost use Rattle.demanded.specs.Calls.{Allows, contract, exported, moved, named, inSlot, into, ask, give, stepping, moving};
+ghost use Rattle.demanded.specs.Calls.{Allows, contract, exported, moved, named, inSlot, into, ask, give, want, stepping, moving};
 ghost use Rattle.demanded.specs.Calls as Calls;
 
 // The calls on an image.
@@ -97,6 +98,18 @@ pub fn write(image: &mut [u8], slot: u64, bodies: &[u8], lengths: &[u32]) -> Wri
     writing::write(image, slot, bodies, lengths)
 }
 
+pub fn create(image: &mut [u8], fields: &[u8], n: u64) -> Created
+    ensures { λ r. ⌜ Allows (contract Calls.create) (want (now (image .entry)) (now (fields .entry)) n) r (now (image .exit)) ⌝ }
+{
+    creating::create(image, fields, n)
+}
+
+pub fn delete(image: &mut [u8], slot: u64) -> Counted
+    ensures { λ r. ⌜ Allows (contract Calls.delete) (inSlot (now (image .entry)) slot) r (now (image .exit)) ⌝ }
+{
+    deleting::delete(image, slot)
+}
+
 // The same for C.
 
 pub fn judge_number(image: &[u8]) -> u64
@@ -153,6 +166,18 @@ pub fn write_number(image: &mut [u8], slot: u64, bodies: &[u8], lengths: &[u32])
     ensures { λ r. ⌜ Allows (exported Calls.galz-write) (give (now (image .entry)) slot (now (bodies .entry)) (now (lengths .entry))) r (now (image .exit)) ⌝ }
 {
     galzeranta::galz_write(image, slot, bodies, lengths)
+}
+
+pub fn create_number(image: &mut [u8], fields: &[u8], n: u64) -> u64
+    ensures { λ r. ⌜ Allows (exported Calls.galz-create) (want (now (image .entry)) (now (fields .entry)) n) r (now (image .exit)) ⌝ }
+{
+    galzeranta::galz_create(image, fields, n)
+}
+
+pub fn delete_number(image: &mut [u8], slot: u64) -> u64
+    ensures { λ r. ⌜ Allows (exported Calls.galz-delete) (inSlot (now (image .entry)) slot) r (now (image .exit)) ⌝ }
+{
+    galzeranta::galz_delete(image, slot)
 }
 
 // The moves of an address and a place.

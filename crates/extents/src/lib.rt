@@ -14,9 +14,9 @@ ghost use mathlib.Core.Bool.{true, false, cond};
 ghost use Prim.Native.Nat.{_+_, _-_, _<_, _≤_};
 ghost use lib.ListN.{length, drop};
 ghost use Rattle.standard.specs.Layout.{kindOffset};
-ghost use Rattle.standard.specs.Addresses.{legal, ordinal};
+ghost use Rattle.standard.specs.Addresses.{legal, ordinal, addressOf};
 ghost use Rattle.standard.specs.Files.{addressesFrom, isDefective, isWrong};
-ghost use Rattle.extents.specs.Cursors.{legalAt, goodFrom, standing, addressOf};
+ghost use Rattle.extents.specs.Cursors.{legalAt, goodFrom, standing};
 ghost use Rattle.extents.specs.Surveys.{surveyed};
 
 // An address of an extent, and the number of its addresses from there on.
@@ -186,7 +186,7 @@ pub fn count_good(g: Geometry, image: &[u8], from: Cursor) -> u64
 }
 
 // The address of a rank.
-fn address_of(g: Geometry, r: u64) -> Address
+pub fn address_of(g: Geometry, r: u64) -> Address
     requires { ⌜ (0 < g .D) × (0 < g .S) × (r < 8589934592) ⌝ }
     ensures { λ a. ⌜ a ≡ addressOf g r ⌝ }
 {

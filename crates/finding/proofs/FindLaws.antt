@@ -2,7 +2,7 @@
 -- Assumes nothing.
 use Prim.Native.Nat.{ℕ, zero, suc, _+_, _-_, _<_, _≤_}
 use mathlib.Core.Path.{_≡_, refl, sym, ap, _∙_}
-use mathlib.Core.Bool.{Bool, true, false, cond, _&&_}
+use mathlib.Core.Bool.{Bool, true, false, cond, not, _&&_}
 use mathlib.Core.List.{List, []}
 use lib.Dec.{eqb}
 use native.Mathlib.Omega.{arith}
@@ -10,7 +10,7 @@ use borrow.Author.Tests.{lt-leb, le-leb, eq-eqb, ne-eqb}
 use Rattle.standard.specs.Characters.{same}
 use Rattle.standard.specs.Refusals.{refuse}
 use Rattle.standard.specs.Layout.{slotCount, labelOffset, labelAt}
-use Rattle.standard.specs.Labels.{nameOf}
+use Rattle.standard.specs.Labels.{knownLevel, nameOf}
 use Rattle.standard.specs.Slots.{isLabel, hasLabel}
 use Rattle.standard.specs.Judgement.{judged}
 use Rattle.standard.specs.Finding.{isNamed, foundFrom, found, foundAt, labelPart, labelNamed, labelInSlot}
@@ -25,6 +25,13 @@ use Rattle.layout.specs.Room.{Room}
 use Rattle.index.specs.Whole.{Whole, Slotted}
 use Rattle.index.proofs.NameLaws.{knownIn}
 use Rattle.finding.specs.Slot.{slotIn, slotNamed}
+
+-- a test of what a call answered, said of what the call is about
+pub tested : (x y t : Bool) → x ≡ y → not x ≡ t → not y ≡ t
+tested x y t e q = ap not (sym e) ∙ q
+
+pub level-tested : (s h : List ℕ) (x t : Bool) → s ≡ h → x ≡ knownLevel s → not x ≡ t → not (knownLevel h) ≡ t
+level-tested s h x t e f q = tested x (knownLevel h) t (f ∙ ap knownLevel e) q
 
 -- a slot that has a label: of any number
 module _ (g : Geometry) (image : List ℕ) (slot : ℕ) where
@@ -104,10 +111,10 @@ module _ (g : Geometry) (image name : List ℕ) where
   unfolding slotNamed
   found-told = tells (slotCount g) 1 (omega arith)
 
-  found-none : slotNamed g image name ≡ 0 → foundFrom g image name (slotCount g) 1 ≡ Unfound (refuse 13 0)
+  pub found-none : slotNamed g image name ≡ 0 → foundFrom g image name (slotCount g) 1 ≡ Unfound (refuse 13 0)
   found-none e = found-told ∙ ap told e
 
-  found-some : (s : ℕ) → s ≡ slotNamed g image name → (s ≡ 0 → ⊥) → foundFrom g image name (slotCount g) 1 ≡ At s (labelOffset g s)
+  pub found-some : (s : ℕ) → s ≡ slotNamed g image name → (s ≡ 0 → ⊥) → foundFrom g image name (slotCount g) 1 ≡ At s (labelOffset g s)
   found-some s e n = found-told ∙ ap told (sym e) ∙ simp (ne-eqb s 0 n)
 
   -- by name, on an accepted volume

@@ -46,8 +46,8 @@ fn is_named(g: Geometry, image: &[u8], name: &[u8], slot: u64) -> bool
     name_is(label_at(g, image, slot), name)
 }
 
-// "Names are 17 bytes, found among levels space, 1, 2 only": the slot, 0 for none.
-fn slot_named(g: Geometry, image: &[u8], name: &[u8]) -> u64
+// "Names are 17 bytes, found among levels space, 1, 2 only": the slot, 0 for none. (For layers above, on an accepted volume.)
+pub fn slot_named(g: Geometry, image: &[u8], name: &[u8]) -> u64
     requires { ⌜ Slotted g (now image) ⌝ }
     ensures { λ r. ⌜ (r ≡ slotNamed g (now (image .entry)) (now (name .entry))) × (r ≤ slotCount g) ⌝ }
 {

@@ -9,8 +9,9 @@ ghost use Rattle.standard.specs.Files.{counted};
 ghost use Rattle.standard.specs.Free.{freeCount};
 ghost use Rattle.standard.specs.Records.{plain, salvage};
 ghost use Rattle.standard.specs.Reading.{readAnswer, outputAfter};
-ghost use Rattle.standard.specs.Packed.{packedJudged, packedFound, packedCounted, packedAnswer, packedWritten};
+ghost use Rattle.standard.specs.Packed.{packedJudged, packedFound, packedCounted, packedAnswer, packedWritten, packedCreated};
 ghost use Rattle.standard.specs.Writing.{written, imageAfter};
+ghost use Rattle.standard.specs.Creating.{created, imageAfterCreate, deleted, imageAfterDelete};
 ghost use Rattle.galzeranta.specs.Asked.{placeOf};
 
 // The judgement of a volume.
@@ -92,4 +93,20 @@ pub extern "C" fn galz_write(image: &mut [u8], slot: u64, bodies: &[u8], lengths
     ensures { λ r. ⌜ (r ≡ packedWritten (written (now (image .entry)) slot (now (bodies .entry)) (now (lengths .entry)))) × (now (image .exit) ≡ imageAfter (now (image .entry)) slot (now (bodies .entry)) (now (lengths .entry))) ⌝ }
 {
     packing::pack_written(writing::write(image, slot, bodies, lengths))
+}
+
+// Creating a file: the 29 bytes of label fields, and the number of its physical records.
+#[no_mangle]
+pub extern "C" fn galz_create(image: &mut [u8], fields: &[u8], n: u64) -> u64
+    ensures { λ r. ⌜ (r ≡ packedCreated (created (now (image .entry)) (now (fields .entry)) n)) × (now (image .exit) ≡ imageAfterCreate (now (image .entry)) (now (fields .entry)) n) ⌝ }
+{
+    packing::pack_created(creating::create(image, fields, n))
+}
+
+// Deleting the file in a slot.
+#[no_mangle]
+pub extern "C" fn galz_delete(image: &mut [u8], slot: u64) -> u64
+    ensures { λ r. ⌜ (r ≡ packedCounted (deleted (now (image .entry)) slot)) × (now (image .exit) ≡ imageAfterDelete (now (image .entry)) slot) ⌝ }
+{
+    packing::pack_counted(deleting::delete(image, slot))
 }

@@ -45,9 +45,17 @@ module _ (g : Geometry) (slot : ℕ) (h : slot + 6 < indexSectors g) where
   unfolding labelOffset bodyOffset slotOrdinal
   label-begins = ap (λ (m : ℕ). m + 1) (offset-first g (slot + 6) ((slot + 6) * 129) h refl)
 
-  pub slot-kind-is : (image : List ℕ) (r : ℕ) → r ≡ getD image ((slot + 6) * 129) 0 → r ≡ kindAt g image (slotOrdinal slot)
-  unfolding kindAt slotOrdinal
-  slot-kind-is image r e = e ∙ ap (λ (m : ℕ). getD image m 0) (offset-first g (slot + 6) ((slot + 6) * 129) h refl)
+  pub slot-begins : (slot + 6) * 129 ≡ kindOffset g (slotOrdinal slot)
+  unfolding slotOrdinal
+  slot-begins = offset-first g (slot + 6) ((slot + 6) * 129) h refl
+
+  pub slot-marked : (mark : ℕ) → mark ≡ mark + kAt g (slotOrdinal slot)
+  unfolding slotOrdinal
+  slot-marked mark = omega (arith, k-first g (slot + 6) 0 h refl)
+
+pub slot-kind-is : (g : Geometry) (slot : ℕ) (image : List ℕ) (r a : ℕ) → r ≡ getD image a 0 → a ≡ kindOffset g (slotOrdinal slot) → r ≡ kindAt g image (slotOrdinal slot)
+unfolding kindAt
+slot-kind-is g slot image r a e f = e ∙ ap (λ (m : ℕ). getD image m 0) f
 
 pub slot-first-is : (g : Geometry) (slot : ℕ) (image : List ℕ) (r a : ℕ) → r ≡ getD image a 0 → a ≡ labelOffset g slot → r ≡ firstByte g image (slotOrdinal slot)
 unfolding firstByte labelOffset

@@ -14,7 +14,7 @@ ghost use mathlib.Core.Path.{_≡_};
 ghost use mathlib.Core.Bool.{true};
 ghost use Prim.Native.Nat.{_+_, _-_, _*_, _<_, _≤_};
 ghost use lib.ListN.{length};
-ghost use Rattle.standard.specs.Layout.{indexSectors, kindOffset, bodyOffset, imageLength, kindAt, firstByte, incorrectMark, checkFailed, indexKind, indexBody, slotCount, slotOrdinal, labelOffset, labelAt};
+ghost use Rattle.standard.specs.Layout.{indexSectors, kAt, kindOffset, bodyOffset, imageLength, kindAt, firstByte, incorrectMark, checkFailed, indexKind, indexBody, slotCount, slotOrdinal, labelOffset, labelAt};
 ghost use Rattle.standard.specs.Defects.{skipOne, physical};
 ghost use Rattle.standard.specs.Addresses.{legal, ordinal, stepped};
 ghost use Rattle.standard.specs.Judgement.{refusal6};
@@ -84,7 +84,14 @@ pub fn index_body(image: &[u8], sector: u64) -> &[u8]
     &image[a..e]
 }
 
-// A slot's sector, which is in the index cylinder: where its label begins, the label itself, and the byte of kind and the first byte.
+// A slot's sector, which is in the index cylinder: where its kind stands and where its label begins, the label itself, and the byte of kind and the first byte.
+pub fn slot_offset(g: Geometry, slot: u64) -> u64
+    requires { ⌜ (slot < 65536) × (slot + 6 < indexSectors g) ⌝ }
+    ensures { λ r. ⌜ (r ≡ kindOffset g (slotOrdinal slot)) × (r ≡ (slot + 6) * 129) ⌝ }
+{
+    (slot + 6) * 129
+}
+
 pub fn label_offset(g: Geometry, slot: u64) -> u64
     requires { ⌜ (slot < 65536) × (slot + 6 < indexSectors g) ⌝ }
     ensures { λ r. ⌜ (r ≡ labelOffset g slot) × (r ≡ (slot + 6) * 129 + 1) ⌝ }
@@ -105,8 +112,16 @@ pub fn slot_kind(g: Geometry, image: &[u8], slot: u64) -> u64
     requires { ⌜ Room g (now image) slot ⌝ }
     ensures { λ r. ⌜ (r ≡ kindAt g (now (image .entry)) (slotOrdinal slot)) × (r < 256) ⌝ }
 {
-    let at = ((slot + 6) * 129) as usize;
+    let at = slot_offset(g, slot) as usize;
     wide(image[at])
+}
+
+// "Cylinder 0 uses k = 0": the kind that a mark is there, 0 for the valid one and 16 for the incorrect one.
+pub fn slot_mark(g: Geometry, slot: u64, mark: u8) -> u8
+    requires { ⌜ (slot + 6 < indexSectors g) × (mark < 224) ⌝ }
+    ensures { λ r. ⌜ r ≡ mark + kAt g (slotOrdinal slot) ⌝ }
+{
+    mark
 }
 
 pub fn slot_first(g: Geometry, image: &[u8], slot: u64) -> u64

@@ -23,6 +23,7 @@ use Rattle.promises.specs.Basics.{never}
 use Rattle.promises.specs.Judging.{order-each, order-append, not-given}
 use Rattle.promises.specs.AcceptedLaws.{label-in-range}
 use Rattle.labels.specs.Forms.{formIn}
+use Rattle.finding.proofs.FindLaws.{tested}
 use Rattle.labels.specs.declared.Form.{Form}
 use Rattle.extents.specs.Surveys.{surveyed}
 use Rattle.files.specs.Numbers.{numbersOf, tallied}
@@ -33,15 +34,9 @@ use Rattle.opening.specs.Opened.{isWhole, usableIn, fileNumbers, openOr,
 use Rattle.opening.specs.declared.FileNumbers.{FileNumbers}
 use Rattle.opening.specs.declared.Opening.the-variants.{Shut, Open}
 
--- a test of what a call answered, said of what the call is about
-pub told : (x y t : Bool) → x ≡ y → not x ≡ t → not y ≡ t
-told x y t e q = ap not (sym e) ∙ q
-
-pub level-told : (s h : List ℕ) (x t : Bool) → s ≡ h → x ≡ knownLevel s → not x ≡ t → not (knownLevel h) ≡ t
-level-told s h x t e f q = told x (knownLevel h) t (f ∙ ap knownLevel e) q
-
+-- a test of a byte of a label, said of the label
 pub space-told : (s h : List ℕ) (i x : ℕ) (t : Bool) → s ≡ h → x ≡ at s i → not (isSpace x) ≡ t → not (isSpace (at h i)) ≡ t
-space-told s h i x t e f q = told (isSpace x) (isSpace (at h i)) t (ap isSpace (f ∙ ap (λ (u : List ℕ). at u i) e)) q
+space-told s h i x t e f q = tested (isSpace x) (isSpace (at h i)) t (ap isSpace (f ∙ ap (λ (u : List ℕ). at u i) e)) q
 
 module _ (g : Geometry) (image : List ℕ) (slot : ℕ) where
   abbrev h : List ℕ

@@ -1,9 +1,12 @@
 -- What has room in the bits that the packed number keeps for it. A refusal always has: a place too large is given as the largest.
 -- Assumes nothing.
 use Prim.Native.Nat.{_<_, _^_}
+use Rattle.standard.specs.Addresses.{addressNumber}
 use Rattle.standard.specs.declared.Place.{Place}
 use Rattle.standard.specs.declared.Found.{Found}
 use Rattle.standard.specs.declared.Found.the-variants.{Unfound, At}
+use Rattle.standard.specs.declared.Created.{Created}
+use Rattle.standard.specs.declared.Created.the-variants.{Uncreated, Placed}
 use Rattle.standard.specs.declared.Answer.{Answer}
 use Rattle.standard.specs.declared.Answer.the-variants.{Unanswered, Record, Gap, End}
 
@@ -22,3 +25,8 @@ AnswerFits (Unanswered r) = Unit {0}
 AnswerFits (Record n pl) = (n < 2 ^ 24) × PlaceFits pl
 AnswerFits (Gap pl) = PlaceFits pl
 AnswerFits (End pl) = PlaceFits pl
+
+-- "slot in bits 24-55; the start as the number of its five digits [..] in bits 0-23"
+abbrev pub CreatedFits : Created → Type 0
+CreatedFits (Uncreated r) = Unit {0}
+CreatedFits (Placed slot start) = (slot < 2 ^ 32) × (addressNumber start < 2 ^ 24)

@@ -2,6 +2,7 @@
 // number; the functions here compute it, and no sum of theirs wraps. Inner: the exports call them.
 use standard::Answer;
 use standard::Counted;
+use standard::Created;
 use standard::Found;
 use standard::Judged;
 use standard::Place;
@@ -11,8 +12,8 @@ ghost use mathlib.Core.Path.{_≡_};
 ghost use mathlib.Core.Bool.{cond};
 ghost use Prim.Native.Nat.{_-_, _<_, _^_};
 ghost use lib.Dec.{ltb};
-ghost use Rattle.standard.specs.Packed.{packedRefusal, packedJudged, packedFound, packedCounted, packedPlace, packedAnswer, packedWritten};
-ghost use Rattle.packing.specs.Room.{FoundFits, PlaceFits, AnswerFits};
+ghost use Rattle.standard.specs.Packed.{packedRefusal, packedJudged, packedFound, packedCounted, packedPlace, packedAnswer, packedWritten, packedCreated};
+ghost use Rattle.packing.specs.Room.{FoundFits, PlaceFits, AnswerFits, CreatedFits};
 
 // What a bit of that number is worth: the parts of an answer begin at these bits.
 const BIT_4: u64 = 1 << 4;
@@ -135,5 +136,18 @@ pub fn pack_written(w: Written) -> u64
     match w {
         Written::Unwritten(r) => pack_refusal(r),
         Written::Blocks(n) => n,
+    }
+}
+
+// "slot in bits 24-55; the start as the number of its five digits [..] in bits 0-23"
+pub fn pack_created(c: Created) -> u64
+    requires { ⌜ CreatedFits c ⌝ }
+    ensures { λ p. ⌜ p ≡ packedCreated c ⌝ }
+{
+    match c {
+        Created::Uncreated(r) => pack_refusal(r),
+        Created::Placed(slot, start) => {
+            slot * BIT_24 + (start.cylinder * 1000 + start.side * 100 + start.sector)
+        }
     }
 }

@@ -13,7 +13,7 @@ use Rattle.standard.specs.Refusals.{inOrder, orElse, given-when, refuse}
 use Rattle.standard.specs.Layout.{ordinalAt, sectorCount, kAt, bodySize, kindOffset, bodyOffset, imageLength, kindAt, bodyAt, firstByte, validMark, incorrectMark, checkFailed, indexKind, indexBody, slotCount, slotOrdinal, labelOffset, labelAt}
 use Rattle.standard.specs.Volume.{vol1Rules}
 use Rattle.standard.specs.Defects.{ermapRules, ermapRule7, ermapRule11, skipOne, physical}
-use Rattle.standard.specs.Addresses.{fiveDigits, addressIn, fiveRead, legal, rank, before, stepped, pastLast, isAddress, isDataEnd, ordinal}
+use Rattle.standard.specs.Addresses.{addressOf, fiveDigits, addressIn, fiveRead, legal, rank, before, stepped, pastLast, isAddress, isDataEnd, ordinal}
 use Rattle.standard.specs.Labels.{knownLevel, anotherLevel, formatOf, recordLength, unusedCount, rule44, rule6, rule29, rule35, rule40, rule23, rule63, rule41, rule42, rule43, rule45, rule64, rule73, rule46, spacesOrDate, rule48, rule67, rule54, rule58, rule75, hdr1Rules, labelFault, variable, spanned}
 use Rattle.standard.specs.Slots.{isLabel, isDeleted, isUnreadable, slotRefusal, slotsFrom, hasLabel}
 use Rattle.standard.specs.Judgement.{numbersIn, legalKind, kindsFrom, clashesBelow, clashesFrom, overlap, shares, sameName, namesake, volumeRefusal, judged}
@@ -24,11 +24,16 @@ use Rattle.standard.specs.Pieces.{look, walk, pieces, inBlock, inBlocks, ahead,
 use Rattle.standard.specs.Reading.{replyIn, reply, laidOver}
 use Rattle.standard.specs.Packing.{recordV, segment, lay, layOne, spread, layS, pack, fileOf}
 use Rattle.standard.specs.Writing.{written, imageAfter, total, parted, wrongLength, lengthsFrom, packing, writeRefusal, splice, filledTo, storeRecord, storeBlock, storeBlocks, nextDataEnd, dataEndAfter, setLabel, imageWith, outcome}
+use Rattle.standard.specs.Finding.{isNamed, foundFrom}
+use Rattle.standard.specs.Free.{inExtent, taken}
+use Rattle.standard.specs.Creating.{proposed, proposedRules, proposalFault, deletedFrom, lowestDeleted, freeRun, runFrom, lowestRun, createRefusal, storeSlot, imageCreated, creation, created, imageAfterCreate, deleteRefusal, deletion, deleted, imageAfterDelete}
 use Rattle.standard.specs.Rules.{lowestFault}
 use Rattle.standard.specs.declared.Geometry.{Geometry}
 use Rattle.standard.specs.declared.Judged.the-variants.{Volume}
 use Rattle.standard.specs.declared.Checked.the-variants.{Passed}
 use Rattle.standard.specs.declared.Written.the-variants.{Blocks}
+use Rattle.standard.specs.declared.Counted.the-variants.{Uncounted, Count}
+use Rattle.standard.specs.declared.Created.the-variants.{Uncreated, Placed}
 use Rattle.promises.specs.Sectors.{sectorOf}
 use Rattle.promises.specs.ReadingLaws.{bodyOf, Reads}
 use Rattle.promises.specs.Following.{told, gapAt, done, following, refused}
@@ -181,6 +186,25 @@ pub demo-heard : following 3 plain (imageAfter demo 1 demoBodies demoLengths) 1 
 unfolding parted
 demo-heard =
     written-heard demo demoVolume 1 demoBodies demoLengths (demo-accepted .1) (demo-accepted .2) plain 3 (replicate 5 255) (omega arith, (omega arith, tt))
+
+-- THE PROMISES OF REQUEST 2026-01 SAY SOMETHING: on the third image the file is deleted and made again, of one record; of two there is no room, and before the
+-- delete no slot
+abbrev pub demoFields : List ℕ
+demoFields = bytes "LOG              00128V20100B"
+
+abbrev pub demoOther : List ℕ
+demoOther = bytes "PARTS            00128V20100B"
+
+pub demo-made : (created demo demoFields 1 ≡ Uncreated (refuse 12 1))
+    × (created demo demoOther 1 ≡ Uncreated (refuse 28 0))
+    × (deleted demo 2 ≡ Uncounted (refuse 13 0))
+    × (deleted demo 1 ≡ Count 1)
+    × (judged (imageAfterDelete demo 1) ≡ Volume demoVolume)
+    × (created (imageAfterDelete demo 1) demoFields 2 ≡ Uncreated (refuse 29 0))
+    × (created (imageAfterDelete demo 1) demoFields 1 ≡ Placed 1 (addressIn (bytes "01001")))
+    × (imageAfterCreate (imageAfterDelete demo 1) demoFields 1 ≡ demo)
+unfolding oneOf same every aSet isDigit digitValue numberFrom spacesOrNumber isHex hexValue hexFrom padded given-when inOrder orElse lowestFault sectorCount kAt bodySize kindOffset bodyOffset imageLength kindAt bodyAt firstByte validMark incorrectMark checkFailed indexKind indexBody slotCount slotOrdinal labelOffset labelAt vol1Rules ermapRules ermapRule7 ermapRule11 rule41 rule42 rule43 rule45 rule64 rule73 fiveDigits addressIn addressOf legal rank before pastLast isAddress isDataEnd knownLevel anotherLevel formatOf recordLength unusedCount rule44 rule6 rule29 rule35 rule40 rule23 rule63 rule46 spacesOrDate rule48 rule67 rule54 rule58 rule75 hdr1Rules labelFault isLabel isDeleted isUnreadable slotRefusal slotsFrom hasLabel numbersIn legalKind kindsFrom clashesBelow clashesFrom overlap shares sameName namesake volumeRefusal judged extentSize isNamed foundFrom inExtent taken splice proposed proposedRules proposalFault deletedFrom lowestDeleted freeRun runFrom lowestRun createRefusal storeSlot imageCreated creation deleteRefusal deletion
+demo-made = (refl, refl, refl, refl, refl, refl, refl, refl)
 
 -- THE BLOCKS NEEDED, counted from the lengths alone: those of examples 8, 9 and 12
 pub needed-examples : (neededFrom variable true 30 0 0 (10 ∷ 10 ∷ 10 ∷ []) ≡ 2)

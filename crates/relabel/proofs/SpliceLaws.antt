@@ -1,20 +1,24 @@
 -- What is put where there is room for all of it is laid over the bytes there.
 -- Assumes nothing.
-use Prim.Native.Nat.{ℕ, zero, suc, _+_, _≤_}
+use Prim.Native.Nat.{ℕ, zero, suc, _+_, _-_, _<_, _≤_}
 use mathlib.Core.Path.{_≡_, refl, sym, ap, _∙_}
-use mathlib.Core.List.{List, [], _∷_, _++_}
-use lib.ListN.{length, take, drop}
+use mathlib.Core.List.{List, [], _∷_, _++_, append-nil}
+use lib.ListN.{length, getD, take, drop, set, drop-of-length-le}
+use lib.Seq.{take-all, drop-drop}
 use native.Mathlib.Omega.{arith}
-use native.Mathlib.Nat.{not-suc-le-zero}
+use native.Mathlib.Nat.{not-suc-le-zero, le-of-suc-le-suc}
+use native.Mathlib.Numerals.{add-one}
 use borrow.Author.Tests.{eq-eqb, ne-eqb}
 use Rattle.standard.specs.Characters.{bytes, padded}
-use Rattle.standard.specs.Layout.{labelOffset}
+use Rattle.standard.specs.Layout.{kAt, kindOffset, slotOrdinal, labelOffset}
 use Rattle.standard.specs.Addresses.{fiveBytes}
 use Rattle.standard.specs.Writing.{splice, unusedField, setLabel}
+use Rattle.standard.specs.Creating.{storeSlot}
 use Rattle.standard.specs.declared.Geometry.{Geometry}
 use Rattle.standard.specs.declared.Address.{Address}
 use Rattle.promises.specs.Digits.{padded-length}
 use Rattle.text.specs.Laid.{laid, Puts}
+use Rattle.text.proofs.LaidLaws.{laid-byte}
 
 here : (out text : List ℕ) → length text ≤ length out → laid out 0 text ≡ text ++ drop (length text) out
 unfolding laid
@@ -61,3 +65,35 @@ unfolding setLabel
 set-both g slot U o end image once twice at p q =
     q ∙ ap (splice (o + 74) (fiveBytes end)) p
     ∙ ap (λ (n : ℕ). splice (n + 74) (fiveBytes end) (splice (n + 57) (unusedField U) image)) at
+
+-- bytes over as many others: the first of them, and the rest of the others
+abbrev pub over : List ℕ → List ℕ → ℕ → List ℕ
+over new old i = take i new ++ drop i old
+
+over-next : (new old : List ℕ) (i : ℕ) → length old ≡ length new → i < length new → set (over new old i) i (getD new i 0) ≡ over new old (suc i)
+over-next [] old i e h = absurd (not-suc-le-zero h)
+over-next (x ∷ new) [] i e h = absurd (omega arith)
+over-next (x ∷ new) (y ∷ old) zero e h = refl
+over-next (x ∷ new) (y ∷ old) (suc i) e h = ap (λ (t : List ℕ). x ∷ t) (over-next new old i (omega arith) (le-of-suc-le-suc h))
+
+pub over-more : (new old : List ℕ) (i : ℕ) → length old ≡ length new → i < length new → set (over new old i) i (getD new i 0) ≡ over new old (i + 1)
+over-more new old i e h = rw add-one (over-next new old i e h)
+
+pub over-all : (new old : List ℕ) (i : ℕ) → length old ≡ length new → length new ≤ i → over new old i ≡ new
+over-all new old i e h =
+    let n : length old ≤ i = omega arith in
+    rw (take-all, drop-of-length-le old n) (append-nil new)
+
+-- a part that was lent, with other bytes in it
+pub lent-over : (at : ℕ) (new image part : List ℕ) → part ≡ new → take at image ++ (part ++ drop (at + length new - at) (drop at image)) ≡ splice at new image
+unfolding splice
+lent-over at new image part e =
+    let n : at + (at + length new - at) ≡ at + length new = omega arith in
+    rw (e, drop-drop, n)
+
+-- a kind, and then bytes
+pub store-both : (g : Geometry) (slot mark k o m : ℕ) (new image stored : List ℕ) → k ≡ kindOffset g (slotOrdinal slot) → m ≡ mark + kAt g (slotOrdinal slot)
+    → o ≡ labelOffset g slot → k < length image → stored ≡ splice o new (set image k m) → stored ≡ storeSlot g slot mark new image
+unfolding storeSlot
+store-both g slot mark k o m new image stored at kind from h e =
+    e ∙ ap (splice o new) (laid-byte image k m h ∙ laid-splice image k (m ∷ []) (omega arith)) ∙ rw (at, kind, from)

@@ -1,19 +1,24 @@
 -- The edges of the rules, each computed: what a sentence of document 01 decides where two readings of it would differ.
 -- Assumes nothing.
-use Prim.Native.Nat.{ℕ}
+use Prim.Native.Nat.{ℕ, _-_, _^_}
 use Prim.Native.String.{String}
 use mathlib.Core.Path.{_≡_, refl}
 use mathlib.Core.Bool.{Bool, true, false}
 use mathlib.Core.List.{List, [], _∷_, _++_, map}
-use lib.ListN.{replicate}
+use lib.ListN.{length, take, replicate}
 use Rattle.standard.specs.Characters.{bytes, byte, oneOf, same, every, aSet, isDigit, digitValue, numberFrom, spacesOrNumber, padded, shownBy, shown}
-use Rattle.standard.specs.Addresses.{fiveDigits, addressIn, legal, rank, before, pastLast, isAddress, isDataEnd, fiveBytes}
+use Rattle.standard.specs.Addresses.{addressOf, firstAddress, fiveDigits, addressIn, legal, rank, before, pastLast, isAddress, isDataEnd, fiveBytes}
 use Rattle.standard.specs.Labels.{knownLevel, anotherLevel, recordLength, unusedCount, rule44, rule6, rule29, rule35, rule40, rule23, rule63, rule41, rule42, rule43, rule45, rule46, spacesOrDate, rule48, rule67, rule54, rule58, rule64, rule73, rule75, hdr1Rules, labelFault, fixed, variable, spanned}
+use Rattle.standard.specs.Layout.{kAt, kindOffset, bodyOffset, kindAt, firstByte, validMark, incorrectMark, slotCount, slotOrdinal, labelOffset, labelAt}
+use Rattle.standard.specs.Slots.{isLabel, isDeleted}
+use Rattle.standard.specs.Free.{inExtent, taken}
+use Rattle.standard.specs.Creating.{proposed, proposedRules, proposalFault, deletedFrom, lowestDeleted, freeRun, runFrom, lowestRun, storeSlot, imageCreated, imageWithout}
+use Rattle.standard.specs.declared.Run.the-variants.{NoRun, RunAt}
 use Rattle.standard.specs.Judgement.{overlap}
 use Rattle.standard.specs.Pieces.{Block, lostBlock, held, number4, roleOf, lookF, lookV, lookS, look, walk, pieces, inBlock, inBlocks, ahead}
 use Rattle.standard.specs.Records.{plain, salvage, File, Record, took, ended, refused, refuse20, refuse21, refuse22, answer, step, rec, gap, end, no, enough, readOn, readAll}
 use Rattle.standard.specs.Packing.{Packing, segment, spread, layS, pack}
-use Rattle.standard.specs.Writing.{unusedField}
+use Rattle.standard.specs.Writing.{splice, unusedField}
 use Rattle.standard.specs.Rules.{lowestFault}
 use Rattle.standard.specs.declared.Geometry.{Geometry}
 use Rattle.standard.specs.declared.Place.{Place}
@@ -192,3 +197,92 @@ pub edges-fields :
     × (map shown (0 ∷ 10 ∷ 9546 ∷ []) ≡ bytes "0" ∷ bytes "10" ∷ bytes "9546" ∷ [])
 unfolding digitValue padded shownBy addressIn
 edges-fields = (refl, refl, refl, refl)
+
+-- Request 2026-01. The 29 bytes of label fields; the position at fault of the label to be made of them, with so many physical records
+abbrev wanted : String → String → String → String → String → String → List ℕ
+wanted name B format level R blocked = bytes name ++ (bytes B ++ (bytes format ++ (bytes level ++ (bytes R ++ bytes blocked))))
+
+abbrev proposal : String → String → String → String → String → ℕ → ℕ
+proposal B format level R blocked n = proposalFault volume (wanted "TEST             " B format level R blocked) n
+
+abbrev proposal# : String → String → ℕ → ℕ
+proposal# B level n = proposalFault volume (wanted "T#               " B "F" level "    " " ") n
+
+-- the 29 bytes of the first example, and so many of them; one more
+abbrev right : List ℕ
+right = wanted "TEST             " "00128" " " " " "    " " "
+
+pub edges-proposed :
+    (proposalFault volume right 8 ≡ 0)
+    × (proposal "00256" "V" "2" "0100" "B" (2 ^ 64 - 1) ≡ 0)
+    -- "other than 29 bytes at 6", n = 0 or not
+    × (proposalFault volume (take 28 right) 0 ≡ 6)
+    × (proposalFault volume [] 8 ≡ 6)
+    × (proposalFault volume (right ++ bytes " ") 8 ≡ 6)
+    -- "n = 0 at 35", in its place among the positions
+    × (proposalFault volume right 0 ≡ 35)
+    × (proposal# "00128" "2" 0 ≡ 6)
+    × (proposal "00000" "F" "2" "    " " " 0 ≡ 23)
+    × (proposal "00128" "X" "2" "    " " " 0 ≡ 35)
+    × (proposal "00128" "X" "2" "    " " " 1 ≡ 40)
+    × (proposal "00030" "F" "2" "0031" " " 0 ≡ 35)
+    × (proposal "00030" "F" "2" "0031" " " 1 ≡ 54)
+    -- a divisor is asked of 63; "level space needs space"
+    × (proposal "00030" "F" "2" "0007" "X" 1 ≡ 63)
+    × (proposal "00128" " " " " "    " "B" 1 ≡ 63)
+    -- "a level other than space, 1, 2 counts at 44", and has only 29, 35 and 44 judged
+    × (proposal# "?????" "3" 8 ≡ 44)
+    × (proposal# "?????" "3" 0 ≡ 35)
+    -- "With 44 outside the a-set every field is judged, without the parts that name a level"
+    × (proposal "00128" "X" "#" "    " " " 8 ≡ 40)
+    × (proposal "00128" "F" "#" "    " " " 8 ≡ 44)
+unfolding oneOf same every aSet isDigit digitValue numberFrom spacesOrNumber padded lowestFault fiveDigits addressIn legal rank before pastLast isAddress isDataEnd knownLevel anotherLevel recordLength unusedCount rule44 rule6 rule29 rule35 rule40 rule23 rule63 rule41 rule42 rule43 rule45 rule46 spacesOrDate rule48 rule67 rule54 rule58 rule64 rule73 rule75 hdr1Rules labelFault proposed proposedRules proposalFault
+edges-proposed = (refl, refl, refl, refl, refl, refl, refl, refl, refl, refl, refl, refl, refl, refl, refl, refl, refl, refl)
+
+-- The label to be made, all of it: "Other fields are spaces, the data end is the start."
+pub edges-label :
+    (proposed right (addressIn (bytes "04001")) (addressIn (bytes "04008"))
+    ≡ bytes "HDR1 TEST             00128 04001 04008                                   04001" ++ replicate 49 (byte " "))
+    × (length (proposed right firstAddress firstAddress) ≡ 128)
+unfolding digitValue addressIn padded proposed
+edges-label = (refl, refl)
+
+-- The index cylinder of the listing's sample: slot 1 `PARTS` 01001-01008, slot 2 deleted, slot 3 `LOG` 02001-03008
+abbrev small : Geometry
+small = record { L = 5; I = 10; D = 8; k = 0; P = 128; S = 1; d1 = 0; d2 = 0 }
+
+abbrev sector : ℕ → String → List ℕ
+sector kind s = kind ∷ (bytes s ++ replicate (128 - length (bytes s)) (byte " "))
+
+abbrev index : List ℕ
+index =
+    replicate 903 (byte " ")
+    ++ (sector 0 "HDR1 PARTS            00128 01001 01008                                   01004"
+    ++ (sector 16 "DDR1 OLD              00128 01001 05008                                   01004"
+    ++ sector 0 "HDR1 LOG              00256 02001 03008V   2         010000056B           02005"))
+
+abbrev without1 : List ℕ
+without1 = imageWithout small 1 index
+
+pub edges-room :
+    -- "the lowest deleted slot"; "the lowest free run of n consecutive data addresses", extents of deleted slots not counted; "29 no run"
+    (lowestDeleted small index ≡ 2)
+    × (map (lowestRun small index) (1 ∷ 8 ∷ 16 ∷ 17 ∷ 40 ∷ 41 ∷ (2 ^ 64 - 1) ∷ []) ≡ RunAt 24 ∷ RunAt 24 ∷ RunAt 24 ∷ NoRun ∷ NoRun ∷ NoRun ∷ NoRun ∷ [])
+    × (map (addressOf small) (0 ∷ 24 ∷ 31 ∷ 39 ∷ []) ≡ map addressIn (bytes "01001" ∷ bytes "04001" ∷ bytes "04008" ∷ bytes "05008" ∷ []))
+    × (map (addressOf volume) (7 ∷ 8 ∷ 16 ∷ []) ≡ map addressIn (bytes "01008" ∷ bytes "01101" ∷ bytes "02001" ∷ []))
+    -- "Deleting gives the slot the incorrect mark and first byte `D`, nothing else." "Room freed by a delete is used again."
+    × (without1
+    ≡ replicate 903 (byte " ")
+    ++ (sector 16 "DDR1 PARTS            00128 01001 01008                                   01004"
+    ++ (sector 16 "DDR1 OLD              00128 01001 05008                                   01004"
+    ++ sector 0 "HDR1 LOG              00256 02001 03008V   2         010000056B           02005")))
+    × (lowestDeleted small without1 ≡ 1)
+    × (map (lowestRun small without1) (8 ∷ 9 ∷ []) ≡ RunAt 0 ∷ RunAt 24 ∷ [])
+    -- the slot gets the valid mark and the whole label
+    × (imageCreated small index right 8
+    ≡ replicate 903 (byte " ")
+    ++ (sector 0 "HDR1 PARTS            00128 01001 01008                                   01004"
+    ++ (sector 0 "HDR1 TEST             00128 04001 04008                                   04001"
+    ++ sector 0 "HDR1 LOG              00256 02001 03008V   2         010000056B           02005")))
+unfolding same digitValue padded addressOf addressIn rank kAt kindOffset bodyOffset kindAt firstByte validMark incorrectMark slotCount slotOrdinal labelOffset labelAt isLabel isDeleted inExtent taken splice proposed deletedFrom lowestDeleted freeRun runFrom lowestRun storeSlot imageCreated
+edges-room = (refl, refl, refl, refl, refl, refl, refl, refl)

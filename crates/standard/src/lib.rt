@@ -90,6 +90,18 @@ pub enum Written {
     Blocks(u64),
 }
 
+// Creating a file (request 2026-01): the slot of its label, and the start of its extent.
+pub enum Created {
+    Uncreated(Refusal),
+    Placed(u64, Address),
+}
+
+// A run of free addresses: the number, from 0, of its first address.
+pub enum Run {
+    NoRun,
+    RunAt(u64),
+}
+
 // An address of a physical record.
 pub struct Address {
     pub cylinder: u64,

@@ -15,11 +15,11 @@ add-put-unused c = search needs
 put-unused-requires : tie.Need-put-unused-requires
 put-unused-requires c κs = search needs
 
-add-put-end : tie.Need-add-put-end
-add-put-end c = search needs
+add-put-address : tie.Need-add-put-address
+add-put-address c = search needs
 
-put-end-requires : tie.Need-put-end-requires
-put-end-requires c κs = search needs
+put-address-requires : tie.Need-put-address-requires
+put-address-requires c κs = search needs
 
 same-length : tie.Need-same-length
 same-length c = search needs
@@ -32,7 +32,7 @@ returns c =
     let x = c10 .args in
     let o = c8 .label-offset in
     let p = c6 .put-unused in
-    let q = c .before .before .put-end in
+    let q = c .before .before .put-address in
     set-both (x .g) (x .slot) (x .U) (o .result) (x .end) (now (x .image)) (p .last .0) (q .last .0) (o .ensures .0) (p .ensures) (q .ensures)
 
 pub set-label-spec : {M : Type 1} → statement M
@@ -42,7 +42,7 @@ set-label-spec =
     label-offset-requires
     add-put-unused
     put-unused-requires
-    add-put-end
-    put-end-requires
+    add-put-address
+    put-address-requires
     same-length
     returns)

@@ -1,11 +1,11 @@
--- The data end in its field.
+-- An address in five digits.
 -- Assumes nothing.
 use native.Mathlib.Omega.{arith}
 use Rattle.standard.specs.Addresses.{addressNumber}
 use Rattle.relabel.proofs.SpliceLaws.{put-five}
 use borrow.Author.Needs.{needs}
-use Rattle.relabel.proofs.put_end.Statement.{statement}
-use Rattle.relabel.proofs.put_end.Tie as tie
+use Rattle.relabel.proofs.put_address.Statement.{statement}
+use Rattle.relabel.proofs.put_address.Tie as tie
 
 mul-put-padded : tie.Need-mul-put-padded
 mul-put-padded c = search needs
@@ -28,10 +28,10 @@ same-length c = search needs
 returns : tie.Need-returns
 returns c =
     let x = c .before .before .before .before .before .before .before .before .args in
-    put-five (addressNumber (x .end)) (c .before .before .put-padded .ensures .0) (omega arith)
+    put-five (addressNumber (x .a)) (c .before .before .put-padded .ensures .0) (omega arith)
 
-pub put-end-spec : {M : Type 1} → statement M
-put-end-spec =
+pub put-address-spec : {M : Type 1} → statement M
+put-address-spec =
     tie.close
     (tie.spec
     mul-put-padded
