@@ -2,17 +2,14 @@
 -- Assumes nothing.
 use Prim.Native.Nat.{ℕ, _+_, _-_, _<_, _≤_}
 use mathlib.Core.Path.{_≡_, refl, sym, ap, subst, _∙_}
-use mathlib.Core.Bool.{true}
 use mathlib.Core.List.{List}
 use lib.ListN.{length}
 use native.Mathlib.Omega.{arith}
-use borrow.Author.Tests.{lt-ltb, eq-eqb, ne-eqb}
+use borrow.Author.Tests.{lt-ltb, ne-eqb}
 use Rattle.standard.specs.Refusals.{refuse, refuseAt, given-when, inOrder, orElse}
-use Rattle.standard.specs.Layout.{slotCount}
 use Rattle.standard.specs.Addresses.{addressOf, addressCount, legal}
-use Rattle.standard.specs.Finding.{foundFrom}
 use Rattle.standard.specs.Judgement.{judged}
-use Rattle.standard.specs.Creating.{nameIn, proposed, proposalFault, nameUsed, noRoom, runStart, lowestDeleted, lowestRun, storeSlot, createRefusal, createdStart, createdEnd, createdLabel, imageCreated, creation, created, imageAfterCreate, Creation}
+use Rattle.standard.specs.Creating.{nameIn, proposed, proposalFault, runStart, lowestDeleted, lowestRun, storeSlot, createRefusal, createdStart, imageCreated, creation, created, imageAfterCreate, Creation}
 use Rattle.standard.specs.declared.Geometry.{Geometry}
 use Rattle.standard.specs.declared.Address.{Address}
 use Rattle.standard.specs.declared.Refusal.{Refusal}

@@ -2,11 +2,11 @@
 -- Assumes nothing.
 use Prim.Native.Nat.{ℕ, zero, suc, _+_, _-_, _<_, _≤_}
 use mathlib.Core.Path.{_≡_, refl, sym, ap, _∙_}
-use mathlib.Core.Bool.{Bool, true, false, cond, not, _&&_}
+use mathlib.Core.Bool.{Bool, true, false, cond, not}
 use mathlib.Core.List.{List, []}
 use lib.Dec.{eqb}
 use native.Mathlib.Omega.{arith}
-use borrow.Author.Tests.{lt-leb, le-leb, eq-eqb, ne-eqb}
+use borrow.Author.Tests.{lt-leb, le-leb, ne-eqb}
 use Rattle.standard.specs.Characters.{same}
 use Rattle.standard.specs.Refusals.{refuse}
 use Rattle.standard.specs.Layout.{slotCount, labelOffset, labelAt}
@@ -22,7 +22,7 @@ use Rattle.standard.specs.declared.Found.the-variants.{Unfound, At}
 use Rattle.promises.specs.Basics.{by-test}
 use Rattle.promises.specs.AcceptedLaws.{has-slot}
 use Rattle.layout.specs.Room.{Room}
-use Rattle.index.specs.Whole.{Whole, Slotted}
+use Rattle.index.specs.Whole.{Slotted}
 use Rattle.index.proofs.NameLaws.{knownIn}
 use Rattle.finding.specs.Slot.{slotIn, slotNamed}
 

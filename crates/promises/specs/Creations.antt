@@ -14,18 +14,14 @@ use Rattle.standard.specs.Addresses.{rank, addressCount, legal}
 use Rattle.standard.specs.Labels.{knownLevel, nameOf, startOf, endOf, dataEndOf, labelFault}
 use Rattle.standard.specs.Slots.{isLabel}
 use Rattle.standard.specs.Judgement.{judged, overlap, sameName}
-use Rattle.standard.specs.Records.{Mode}
-use Rattle.standard.specs.Reading.{reply}
-use Rattle.standard.specs.Writing.{written}
-use Rattle.standard.specs.Files.{extentSize, counted}
-use Rattle.standard.specs.Finding.{foundFrom, found, foundAt}
+use Rattle.standard.specs.Files.{extentSize}
+use Rattle.standard.specs.Finding.{foundFrom, found}
 use Rattle.standard.specs.Free.{freeRecords, freeCount}
 use Rattle.standard.specs.Creating.{nameIn, proposalFault, nameUsed, runStart, noRoom, freeRun, lowestRun, lowestDeleted, createRefusal, createdStart, createdEnd, createdLabel, imageCreated, creation, imageAfterCreate, Creation}
 use Rattle.standard.specs.declared.Run.{Run}
 use Rattle.standard.specs.declared.Run.the-variants.{NoRun, RunAt}
 use Rattle.standard.specs.declared.Geometry.{Geometry}
 use Rattle.standard.specs.declared.Address.{Address}
-use Rattle.standard.specs.declared.Place.{Place}
 use Rattle.standard.specs.declared.Refusal.{Refusal}
 use Rattle.standard.specs.declared.Checked.the-variants.{Passed}
 use Rattle.standard.specs.declared.Judged.the-variants.{Volume}
@@ -39,12 +35,11 @@ use Rattle.promises.specs.AddressLaws.{rank-of, legal-of}
 use Rattle.promises.specs.Judging.{accepted, judged-from, label-passes, order-each, not-given}
 use Rattle.promises.specs.AcceptedLaws.{image-length, label-in-range}
 use Rattle.promises.specs.VolumeNumbers.{Numbers, numbers-of}
-use Rattle.promises.specs.Locality.{SameFile, reply-same, counted-same}
 use Rattle.promises.specs.FindingLaws.{same-equal, same-self, find-named, find-none}
 use Rattle.promises.specs.FreeLaws.{has-label, free-counted}
 use Rattle.promises.specs.RunsFree.{Lowest, lowest-run, run-free, run-meets, LowestDeleted, lowest-deleted}
-use Rattle.promises.specs.SameWrites.{written-same}
-use Rattle.promises.specs.SlotEdits.{Edit, not-named, other-name, edit-accepted, other-file, other-found-slot, other-found-from, free-fewer}
+use Rattle.promises.specs.SlotEdits.{Edit, not-named, other-name, edit-accepted, other-found-from, free-fewer}
+use Rattle.promises.specs.OthersStay.{AsBefore, others-stay}
 use Rattle.promises.specs.SlotSplices.{deleted-no-label, label-legal, with-edit, with-valid, with-label, with-bytes}
 use Rattle.promises.specs.Drafts.{Right, proposal-right, Fields, proposed-fields, draft-known, draft-start, draft-end, draft-data-end, draft-right}
 
@@ -228,23 +223,9 @@ module _ (image : List ℕ) (g : Geometry) (w : List ℕ) (n : ℕ) (j : judged 
       (λ other l m ne a b. subst (λ (x : List ℕ). sameName x (labelAt g image other) ≡ false) (sym created-label) (named other l m b))
       (accepted image g j))
 
-  -- "Existing files read as before": every reading of every other slot, its count, and the answer to a write to it
-  module _ (other : ℕ) (ne : other ≡ slot → ⊥) where
-    pub create-other : SameFile g image t other
-    create-other = other-file g image t slot ns create-edit j other ne
-
-    pub create-reads : (m : Mode) (pl : Place) (room : ℕ) → reply m image other pl room ≡ reply m t other pl room
-    create-reads = reply-same g image t other (ns .size-low) create-other j create-accepted
-
-    pub create-counts : counted image other ≡ counted t other
-    create-counts = counted-same g image t other (ns .size-low) create-other j create-accepted
-
-    pub create-writes : (bodies lengths : List ℕ) → written image other bodies lengths ≡ written t other bodies lengths
-    create-writes = written-same g image t other (ns .size-low) create-other j create-accepted
-
-    pub create-found-slot : foundAt image other ≡ foundAt t other
-    unfolding foundAt
-    create-found-slot = rw (j, create-accepted) (other-found-slot g image t slot ns create-edit other ne)
+  -- "Existing files read as before."
+  pub create-others : (other : ℕ) → (other ≡ slot → ⊥) → AsBefore g image t other
+  create-others = others-stay g image t slot ns create-edit j create-accepted
 
   -- found as before by every other name; the new file by its own
   pub create-found : (name : List ℕ) → (nameIn w ≡ name → ⊥) → found image name ≡ found t name

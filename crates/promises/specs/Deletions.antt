@@ -15,16 +15,12 @@ use Rattle.standard.specs.Addresses.{rank}
 use Rattle.standard.specs.Labels.{knownLevel, nameOf, startOf, endOf}
 use Rattle.standard.specs.Slots.{isLabel, isDeleted, hasLabel}
 use Rattle.standard.specs.Judgement.{judged}
-use Rattle.standard.specs.Records.{Mode}
-use Rattle.standard.specs.Reading.{reply}
-use Rattle.standard.specs.Writing.{written}
-use Rattle.standard.specs.Files.{extentSize, counted}
-use Rattle.standard.specs.Finding.{found, foundAt}
+use Rattle.standard.specs.Files.{extentSize}
+use Rattle.standard.specs.Finding.{found}
 use Rattle.standard.specs.Free.{inExtent, freeRecords, freeCount}
 use Rattle.standard.specs.Creating.{lowestRun, lowestDeleted, deleteRefusal, imageWithout, deletion, imageAfterDelete, Deletion}
 use Rattle.standard.specs.declared.Run.the-variants.{NoRun}
 use Rattle.standard.specs.declared.Geometry.{Geometry}
-use Rattle.standard.specs.declared.Place.{Place}
 use Rattle.standard.specs.declared.Checked.the-variants.{Passed}
 use Rattle.standard.specs.declared.Judged.the-variants.{Volume}
 use Rattle.standard.specs.declared.Counted.the-variants.{Count}
@@ -34,12 +30,11 @@ use Rattle.promises.specs.AddressLaws.{rank-lt}
 use Rattle.promises.specs.Judging.{accepted, judged-from, order-each, not-given}
 use Rattle.promises.specs.AcceptedLaws.{image-length, has-slot, label-in-range, InRange, bounds-extent, labels-apart}
 use Rattle.promises.specs.VolumeNumbers.{Numbers, numbers-of}
-use Rattle.promises.specs.Locality.{SameFile, reply-same, counted-same}
 use Rattle.promises.specs.FindingLaws.{one-of-name, find-none}
 use Rattle.promises.specs.FreeLaws.{free-counted}
 use Rattle.promises.specs.RunsFree.{Free, no-run, none-deleted}
-use Rattle.promises.specs.SameWrites.{written-same}
-use Rattle.promises.specs.SlotEdits.{Edit, not-named, other-name, edit-back, edit-accepted, other-label, other-is-label, other-has, other-file, other-found-slot, other-found-from, free-fewer}
+use Rattle.promises.specs.SlotEdits.{Edit, not-named, other-name, edit-back, edit-accepted, other-label, other-is-label, other-has, other-found-from, free-fewer}
+use Rattle.promises.specs.OthersStay.{AsBefore, others-stay}
 use Rattle.promises.specs.SlotSplices.{deleted-no-label, deleted-passes, deleted-legal, without-edit, without-deleted, without-bytes}
 
 -- what an accepted delete says
@@ -111,23 +106,9 @@ module _ (image : List ℕ) (g : Geometry) (slot : ℕ) (j : judged image ≡ Vo
       (λ other l m ne a b. absurd (true-not-false (isLabel g t slot) a no-label))
       (accepted image g j))
 
-  -- "Existing files read as before": every reading of every other slot, its count, and the answer to a write to it
-  module _ (other : ℕ) (ne : other ≡ slot → ⊥) where
-    pub delete-other : SameFile g image t other
-    delete-other = other-file g image t slot ns delete-edit j other ne
-
-    pub delete-reads : (m : Mode) (pl : Place) (room : ℕ) → reply m image other pl room ≡ reply m t other pl room
-    delete-reads = reply-same g image t other (ns .size-low) delete-other j delete-accepted
-
-    pub delete-counts : counted image other ≡ counted t other
-    delete-counts = counted-same g image t other (ns .size-low) delete-other j delete-accepted
-
-    pub delete-writes : (bodies lengths : List ℕ) → written image other bodies lengths ≡ written t other bodies lengths
-    delete-writes = written-same g image t other (ns .size-low) delete-other j delete-accepted
-
-    pub delete-found-slot : foundAt image other ≡ foundAt t other
-    unfolding foundAt
-    delete-found-slot = rw (j, delete-accepted) (other-found-slot g image t slot ns delete-edit other ne)
+  -- "Existing files read as before."
+  pub delete-others : (other : ℕ) → (other ≡ slot → ⊥) → AsBefore g image t other
+  delete-others = others-stay g image t slot ns delete-edit j delete-accepted
 
   -- found as before by every other name, and by its own no longer
   pub delete-found : (name : List ℕ) → (nameOf h ≡ name → ⊥) → found image name ≡ found t name

@@ -2,28 +2,26 @@
 -- Assumes nothing.
 use Prim.Native.Nat.{ℕ, _+_, _<_, _≤_}
 use mathlib.Core.Path.{_≡_, sym, ap, _∙_}
-use mathlib.Core.Bool.{true, false, not, _&&_, _||_}
+use mathlib.Core.Bool.{true, false, not, _||_}
 use mathlib.Core.Logic.{inl, inr}
 use mathlib.Core.List.{List, [], _∷_}
 use lib.ListN.{length, getD, take, drop}
 use native.Mathlib.Omega.{arith}
-use lib.Dec.{eqb}
 use borrow.Author.Tests.{eq-eqb, eqb-true, ne-eqb, not-false}
-use Rattle.standard.specs.Characters.{byte, bytes, field, same}
+use Rattle.standard.specs.Characters.{byte, bytes, same}
 use Rattle.standard.specs.Layout.{kAt, kindOffset, bodyOffset, kindAt, firstByte, validMark, incorrectMark, checkFailed, slotCount, slotOrdinal, labelOffset, labelAt}
 use Rattle.standard.specs.Refusals.{given-when}
 use Rattle.standard.specs.Slots.{isLabel, isDeleted, isUnreadable, slotRefusal}
-use Rattle.standard.specs.Judgement.{judged, legalKind}
+use Rattle.standard.specs.Judgement.{legalKind}
 use Rattle.standard.specs.Writing.{splice}
 use Rattle.standard.specs.Creating.{storeSlot, imageWithLabel, imageWithout}
 use Rattle.standard.specs.declared.Geometry.{Geometry}
 use Rattle.standard.specs.declared.Checked.the-variants.{Passed}
-use Rattle.standard.specs.declared.Judged.the-variants.{Volume}
 use Rattle.promises.specs.Basics.{either, lt-or-le, by-test, true-not-false, and-l, and-r, or-rest}
 use Rattle.promises.specs.Splices.{Outside, splice-length, splice-before, splice-at, splice-part, splice-outside}
 use Rattle.promises.specs.Tiling.{size-index, sector-outside}
 use Rattle.promises.specs.SectorLaws.{sector-from-bytes, valid-correct, failed-correct}
-use Rattle.promises.specs.Judging.{order-all, order-each, not-given, accepted, slots-each}
+use Rattle.promises.specs.Judging.{order-all, order-each, not-given}
 use Rattle.promises.specs.VolumeNumbers.{Numbers, slot-in-index, label-room}
 use Rattle.promises.specs.Storing.{WholeImage}
 use Rattle.promises.specs.SlotEdits.{Edit}

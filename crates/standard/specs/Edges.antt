@@ -264,25 +264,33 @@ index =
 abbrev without1 : List ℕ
 without1 = imageWithout small 1 index
 
+-- "the lowest deleted slot"; "the lowest free run of n consecutive data addresses", extents of deleted slots not counted; "29 no run"
 pub edges-room :
-    -- "the lowest deleted slot"; "the lowest free run of n consecutive data addresses", extents of deleted slots not counted; "29 no run"
     (lowestDeleted small index ≡ 2)
     × (map (lowestRun small index) (1 ∷ 8 ∷ 16 ∷ 17 ∷ 40 ∷ 41 ∷ (2 ^ 64 - 1) ∷ []) ≡ RunAt 24 ∷ RunAt 24 ∷ RunAt 24 ∷ NoRun ∷ NoRun ∷ NoRun ∷ NoRun ∷ [])
     × (map (addressOf small) (0 ∷ 24 ∷ 31 ∷ 39 ∷ []) ≡ map addressIn (bytes "01001" ∷ bytes "04001" ∷ bytes "04008" ∷ bytes "05008" ∷ []))
     × (map (addressOf volume) (7 ∷ 8 ∷ 16 ∷ []) ≡ map addressIn (bytes "01008" ∷ bytes "01101" ∷ bytes "02001" ∷ []))
-    -- "Deleting gives the slot the incorrect mark and first byte `D`, nothing else." "Room freed by a delete is used again."
-    × (without1
+unfolding same digitValue addressOf addressIn rank kAt kindOffset bodyOffset kindAt firstByte validMark incorrectMark slotCount slotOrdinal labelOffset labelAt isLabel isDeleted inExtent taken deletedFrom lowestDeleted freeRun runFrom lowestRun
+edges-room = (refl, refl, refl, refl)
+
+-- "Deleting gives the slot the incorrect mark and first byte `D`, nothing else." "Room freed by a delete is used again."
+pub edges-delete :
+    (without1
     ≡ replicate 903 (byte " ")
     ++ (sector 16 "DDR1 PARTS            00128 01001 01008                                   01004"
     ++ (sector 16 "DDR1 OLD              00128 01001 05008                                   01004"
     ++ sector 0 "HDR1 LOG              00256 02001 03008V   2         010000056B           02005")))
     × (lowestDeleted small without1 ≡ 1)
     × (map (lowestRun small without1) (8 ∷ 9 ∷ []) ≡ RunAt 0 ∷ RunAt 24 ∷ [])
-    -- the slot gets the valid mark and the whole label
-    × (imageCreated small index right 8
+unfolding same digitValue addressIn rank kAt kindOffset bodyOffset kindAt firstByte validMark incorrectMark slotCount slotOrdinal labelOffset labelAt isLabel isDeleted inExtent taken splice deletedFrom lowestDeleted freeRun runFrom lowestRun storeSlot
+edges-delete = (refl, refl, refl)
+
+-- the slot gets the valid mark and the whole label
+pub edges-create :
+    imageCreated small index right 8
     ≡ replicate 903 (byte " ")
     ++ (sector 0 "HDR1 PARTS            00128 01001 01008                                   01004"
     ++ (sector 0 "HDR1 TEST             00128 04001 04008                                   04001"
-    ++ sector 0 "HDR1 LOG              00256 02001 03008V   2         010000056B           02005")))
+    ++ sector 0 "HDR1 LOG              00256 02001 03008V   2         010000056B           02005"))
 unfolding same digitValue padded addressOf addressIn rank kAt kindOffset bodyOffset kindAt firstByte validMark incorrectMark slotCount slotOrdinal labelOffset labelAt isLabel isDeleted inExtent taken splice proposed deletedFrom lowestDeleted freeRun runFrom lowestRun storeSlot imageCreated
-edges-room = (refl, refl, refl, refl, refl, refl, refl, refl)
+edges-create = refl

@@ -1,23 +1,22 @@
 -- Request 2026-01: the lowest deleted slot, slot by slot; and a search for a run that goes on behind the extents in its way.
 -- Assumes nothing.
 use Prim.Native.Nat.{ℕ, zero, suc, _+_, _-_, _<_, _≤_}
-use mathlib.Core.Path.{_≡_, refl, sym, ap, subst, _∙_}
+use mathlib.Core.Path.{_≡_, sym, ap, subst, _∙_}
 use mathlib.Core.Bool.{Bool, true, false, cond, not}
 use mathlib.Core.List.{List}
 use lib.ListN.{getD}
 use native.Mathlib.Nat.{eq-or-lt-of-le}
-use native.Mathlib.Numerals.{add-one}
 use native.Mathlib.Omega.{arith}
 use borrow.Author.Tests.{lt-ltb, le-ltb, le-leb, lt-leb}
 use Rattle.standard.specs.Layout.{slotCount, labelAt}
 use Rattle.standard.specs.Addresses.{rank, addressCount}
 use Rattle.standard.specs.Labels.{startOf, endOf}
-use Rattle.standard.specs.Slots.{isLabel, isDeleted, hasLabel}
+use Rattle.standard.specs.Slots.{isLabel}
 use Rattle.standard.specs.Judgement.{judged}
 use Rattle.standard.specs.Creating.{deletedFrom, lowestDeleted, lowestRun}
 use Rattle.standard.specs.declared.Geometry.{Geometry}
 use Rattle.standard.specs.declared.Judged.the-variants.{Volume}
-use Rattle.standard.specs.declared.Run.the-variants.{NoRun, RunAt}
+use Rattle.standard.specs.declared.Run.the-variants.{RunAt}
 use Rattle.promises.specs.Basics.{either, lt-or-le, by-test}
 use Rattle.promises.specs.AcceptedLaws.{has-slot, label-in-range}
 use Rattle.promises.specs.FreeLaws.{has-label}

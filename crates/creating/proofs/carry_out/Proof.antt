@@ -1,7 +1,6 @@
 -- The two addresses, the label with them, and the store.
 -- Assumes nothing.
 use Prim.Native.Nat.{_+_, _-_}
-use mathlib.Core.Path.{_∙_}
 use denote.Ref.{now}
 use native.Mathlib.Omega.{arith}
 use Rattle.creating.proofs.MakeLaws.{made-numbers, made-bytes, made-some, made-inside, made-few, made-small, made-room, made-whole, made-done}
