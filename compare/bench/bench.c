@@ -1,5 +1,5 @@
 /*
- * Calls JUDGE, READ, SALVAGE, PACE or WRITE on the image in a file, so many times over, and prints a number made of all answers of the last time.
+ * Calls JUDGE, READ, SALVAGE, PACE, WRITE, CREATE or DELETE on the image in a file, so many times over, and prints a number made of all answers of the last time.
  *
  *   bench judge IMAGE TIMES
  *   bench read IMAGE TIMES PLACES       one time is a call at each place of the list ('compare walk'), on slot 1
@@ -8,6 +8,8 @@
  *   bench pace-salvage IMAGE TIMES
  *   bench write IMAGE TIMES             one time is the file in slot 1 written, over what the time before left: a list without records
  *   bench write IMAGE TIMES BODIES LENGTHS   the same with the bodies of a file and the lengths that the lines of another say
+ *   bench create IMAGE TIMES N          one time is a file of N records created, its slot given up again behind it by two bytes
+ *   bench delete IMAGE TIMES SLOT       one time is the file in a slot deleted, the two bytes put back behind it
  */
 #include <stdint.h>
 #include <stdio.h>
@@ -19,6 +21,8 @@ uint64_t READ(const uint8_t *image, uint64_t length, uint64_t slot, uint64_t blo
 uint64_t SALVAGE(const uint8_t *image, uint64_t length, uint64_t slot, uint64_t block, uint64_t offset, uint64_t mark, uint8_t *out, uint64_t room);
 uint64_t PACE(const uint8_t *image, uint64_t length, uint64_t slot, uint64_t salvage, uint8_t *out, uint64_t room);
 uint64_t WRITE(uint8_t *image, uint64_t length, uint64_t slot, const uint8_t *bodies, uint64_t total, const uint32_t *lengths, uint64_t count);
+uint64_t CREATE(uint8_t *image, uint64_t length, const uint8_t *fields, uint64_t fields_length, uint64_t n);
+uint64_t DELETE(uint8_t *image, uint64_t length, uint64_t slot);
 
 struct place {
     unsigned long long block, offset, mark;
@@ -115,16 +119,45 @@ static uint64_t walked(int salvaging, long times) {
 }
 
 /* the answer of the last time, and what the image then is */
-static int write_over(int count, char **arguments) {
-    uint64_t answer = 0, all = 0xCBF29CE484222325u;
-    if (!load_image(arguments[2]) || (count == 6 && !load_list(arguments[4], arguments[5])))
-        return 1;
-    for (long times = atol(arguments[3]); times > 0; times--)
-        answer = WRITE(image, length, 1, bodies, total, lengths, records);
+static int show_changed(uint64_t answer) {
+    uint64_t all = 0xCBF29CE484222325u;
     for (size_t i = 0; i < length; i++)
         all = (all ^ image[i]) * 0x100000001B3u;
     printf("%llx-%016llx\n", (unsigned long long)answer, (unsigned long long)all);
     return 0;
+}
+
+static int write_over(int count, char **arguments) {
+    uint64_t answer = 0;
+    if (!load_image(arguments[2]) || (count == 6 && !load_list(arguments[4], arguments[5])))
+        return 1;
+    for (long times = atol(arguments[3]); times > 0; times--)
+        answer = WRITE(image, length, 1, bodies, total, lengths, records);
+    return show_changed(answer);
+}
+
+/* a slot's kind and its first byte, as long as the call was done */
+static void put_back(uint64_t answer, uint64_t slot, uint8_t kind, uint8_t first) {
+    if (answer >> 56 == 0)
+        image[(slot + 6) * 129] = kind, image[(slot + 6) * 129 + 1] = first;
+}
+
+/* name, B, format, level, R and blocking of a file that may stand on every volume */
+static const uint8_t fields[] = "NEW MACHINE PARTS00128F20064B";
+
+static int place_over(int creating, char **arguments) {
+    uint64_t answer = 0, number = strtoull(arguments[4], 0, 10);
+    if (!load_image(arguments[2]))
+        return 1;
+    for (long times = atol(arguments[3]); times > 0; times--)
+        if (creating) {
+            answer = CREATE(image, length, fields, sizeof fields - 1, number);
+            put_back(answer, answer >> 24, 16, 'D');
+        } else {
+            answer = DELETE(image, length, number);
+            put_back(answer, number, 0, 'H');
+        }
+    return show_changed(answer);
 }
 
 int main(int count, char **arguments) {
@@ -132,6 +165,8 @@ int main(int count, char **arguments) {
         return 2;
     if (strcmp(arguments[1], "write") == 0)
         return write_over(count, arguments);
+    if (strcmp(arguments[1], "create") == 0 || strcmp(arguments[1], "delete") == 0)
+        return count == 5 ? place_over(arguments[1][0] == 'c', arguments) : 2;
     int judging = strcmp(arguments[1], "judge") == 0, pacing = strncmp(arguments[1], "pace-", 5) == 0;
     if (!load_image(arguments[2]) || (!judging && !pacing && (count != 5 || !load_places(arguments[4]))))
         return 1;

@@ -24,7 +24,7 @@ void *malloc(unsigned long size);
 void free(void *room);
 void *memset(void *room, int byte, unsigned long count);
 
-enum { STRINGS = 3, NUMBERS = 4, AROUND = 64, FILL = 0xA5, PARTS = 64, FAR = 128, CALLS = 7, STACK = 16384 };
+enum { STRINGS = 3, NUMBERS = 4, AROUND = 64, FILL = 0xA5, PARTS = 64, FAR = 128, CALLS = 9, STACK = 16384 };
 
 /* a lent string: room with filled bytes around it, and a copy */
 struct lent {
@@ -44,9 +44,13 @@ static u64 call_write(struct lent *s, u64 *n)
 	return galz_write(s[0].bytes, s[0].length, n[0], s[1].bytes, s[1].length, lengths, s[2].length / sizeof *lengths);
 }
 
+static u64 call_create(struct lent *s, u64 *n) { return galz_create(s[0].bytes, s[0].length, s[1].bytes, s[1].length, n[0]); }
+static u64 call_delete(struct lent *s, u64 *n) { return galz_delete(s[0].bytes, s[0].length, n[0]); }
+
 /* the number again, from the parts that the header's functions give */
 static u64 refusal_again(u64 a) { return (u64)galz_code(a) << 56 | galz_first(a) << 24 | galz_second(a) << 4 | galz_third(a); }
 static u64 found_again(u64 a) { return galz_slot(a) << 24 | galz_offset(a); }
+static u64 placed_again(u64 a) { return galz_slot(a) << 24 | galz_start(a); }
 static u64 number_again(u64 a) { return galz_number(a); }
 static u64 volume_again(u64 a)
 {
@@ -73,7 +77,9 @@ static const struct {
 		   { "galz_free", call_free, number_again },
 		   { "galz_read", call_read, reading_again },
 		   { "galz_salvage", call_salvage, reading_again },
-		   { "galz_write", call_write, number_again } };
+		   { "galz_write", call_write, number_again },
+		   { "galz_create", call_create, placed_again },
+		   { "galz_delete", call_delete, number_again } };
 
 static u8 stacks[CALLS][STACK] __attribute__((aligned(16)));
 static u64 lower;

@@ -53,7 +53,7 @@ impl<'a> List<'a> {
 pub type Address = (usize, usize, usize);
 
 /// The data addresses in their order, each with where its kind stands.
-fn addresses(geometry: &Geometry) -> Vec<(Address, usize)> {
+pub fn addresses(geometry: &Geometry) -> Vec<(Address, usize)> {
     let mut found = Vec::new();
     // "Sectors in order: physical cylinder 0 to L+3, side 0 then 1, sector 01
     // upward. Each is one byte of kind, then a body." "These are physical
@@ -75,7 +75,7 @@ fn addresses(geometry: &Geometry) -> Vec<(Address, usize)> {
     found
 }
 
-fn digits(address: Address) -> Vec<u8> {
+pub fn digits(address: Address) -> Vec<u8> {
     let (cylinder, side, sector) = address;
     format!("{cylinder:02}{side}{sector:02}").into_bytes()
 }

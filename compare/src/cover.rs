@@ -3,10 +3,12 @@
 use crate::account::List;
 use crate::label::{Entry, Format};
 use crate::make::build::Volume;
+use crate::make::create_cases::FAMILIES;
 use crate::make::fields::{ERMAP, HDR1, VOL1};
 use crate::make::file::FilePlan;
-use crate::make::Case;
+use crate::make::{cases, placings, Case};
 use crate::met;
+use crate::met_slots::{self, KEPT, NUMBERS, POSITIONS, REFUSED};
 use crate::model::{answer, Answer, Call};
 use crate::packed::{code, refusal_of, END, GAP};
 use crate::reading::{watched, Event, Events, Place};
@@ -43,6 +45,7 @@ const SECTORS: &str = "sectors of refusal 2";
 const OF_VOL1: &str = "positions of refusal 3";
 const OF_ERMAP: &str = "positions of refusal 7";
 const OF_HDR1: &str = "positions of refusal 10";
+const OF_CREATING: &str = "families of creating and deleting";
 const SIZES: &str = "P accepted";
 const SIDES: &str = "S accepted";
 const DEFECTS: &str = "defective cylinders accepted";
@@ -109,7 +112,24 @@ impl Cover {
         Cover { tables }
     }
 
-    /// What calls of reading, salvage and writing reach.
+    /// What creates and deletes reach: every family, refusal, position and
+    /// class of n.
+    pub fn of_creating() -> Cover {
+        let some = [REFUSED, POSITIONS, NUMBERS];
+        let tables = met_slots::TABLES.iter();
+        let tables = tables.filter(|table| some.contains(&table.0));
+        let tables = tables.map(|(title, rows)| table(title, rows.iter().copied()));
+        let others = [
+            table(KEPT, [13, 14, 24]),
+            table(DONE, ["create", "delete"]),
+            table(OF_CREATING, FAMILIES.map(|family| family.0)),
+        ];
+        Cover {
+            tables: tables.chain(others).collect(),
+        }
+    }
+
+    /// What calls of reading, salvage, writing, creating and deleting reach.
     pub fn of_files() -> Cover {
         let files = ["defective records", "U > 0", "several records to a block"];
         let mut tables = vec![
@@ -121,11 +141,15 @@ impl Cover {
         let shapes = shape_tables().into_iter();
         tables.extend(shapes.filter(|shape| [SIZES, FORMATS, BLOCKS].contains(&shape.0)));
         let written = met::TABLES.iter();
-        tables.extend(written.map(|(title, rows)| table(title, rows.iter().copied())));
+        let placed = met_slots::TABLES.iter();
+        let deep = written.chain(placed);
+        tables.extend(deep.map(|(title, rows)| table(title, rows.iter().copied())));
+        tables.push(table(met_slots::VOLUMES_FIRST, met_slots::volumes_first()));
         Cover { tables }
     }
 
-    fn reach(&mut self, title: &str, key: &str) {
+    /// Counts a row of a table.
+    pub fn reach(&mut self, title: &str, key: &str) {
         let key = wide(key);
         let found = self.tables.iter_mut().find(|table| table.0 == title);
         if let Some(row) = found.and_then(|table| table.1.get_mut(&key)) {
@@ -138,6 +162,7 @@ impl Cover {
         let given = answer(&case.image, &case.call);
         self.count_refusal(given.packed);
         self.count_done(&case.call, &given);
+        self.count_placing(case, given.packed);
         if let Ok(geometry) = judge(&case.image) {
             self.count_volume(&case.image, &geometry);
         }
@@ -181,6 +206,14 @@ impl Cover {
         }
     }
 
+    /// Counts a create or delete and the number that it returned.
+    pub fn count_placing(&mut self, case: &Case, packed: u64) {
+        self.reach(OF_CREATING, case.family);
+        for (title, row) in met_slots::facts(&case.image, &case.call, packed) {
+            self.reach(title, &row);
+        }
+    }
+
     /// Counts a file that was read to its end.
     pub fn count_read_file(&mut self, made: &Volume, file: &FilePlan) {
         let geometry = &made.geometry;
@@ -210,7 +243,7 @@ impl Cover {
             2 => self.reach(SECTORS, &refused.first.to_string()),
             3 => self.reach(OF_VOL1, &refused.first.to_string()),
             7 => self.reach(OF_ERMAP, &refused.first.to_string()),
-            10 => self.reach(OF_HDR1, &refused.second.to_string()),
+            10 if refused.first > 0 => self.reach(OF_HDR1, &refused.second.to_string()),
             _ => {}
         }
     }
@@ -234,6 +267,8 @@ impl Cover {
                     self.reach(DONE, "write of nothing");
                 }
             }
+            (Call::Create { .. }, 0) => self.reach(DONE, "create"),
+            (Call::Delete { .. }, 0) => self.reach(DONE, "delete"),
             (Call::Read { .. }, 0) => self.reach(READINGS, "read record"),
             (Call::Read { .. }, END) => self.reach(READINGS, "read End"),
             (Call::Salvage { .. }, 0) => self.reach(READINGS, "salvage record"),
@@ -329,11 +364,17 @@ impl Default for Cover {
     }
 }
 
-/// The cover of the first cases of a seed.
+/// The cover of the first cases of a seed, and of a tenth as many creates and
+/// deletes, which have tables of their own.
 pub fn cover(seed: u64, count: usize, largest: usize) -> Cover {
     let mut cover = Cover::new();
-    for case in crate::make::cases(seed, count, largest) {
+    let mut creating = Cover::of_creating();
+    for case in cases(seed, count, largest) {
         cover.count(&case);
     }
+    for case in placings(seed, count / 10, largest) {
+        creating.count(&case);
+    }
+    cover.tables.extend(creating.tables);
     cover
 }

@@ -5,7 +5,8 @@ use crate::model::{answer, Call};
 use std::io::{self, BufReader, Read, Write};
 use std::process::{Child, ChildStdin, ChildStdout, Command, Stdio};
 
-/// What a call lends: the image, then name, output or bodies, then lengths.
+/// What a call lends: the image, then name, output, bodies or fields, then
+/// lengths.
 pub const STRINGS: usize = 3;
 
 /// A byte before or behind a lent string has changed.
@@ -51,6 +52,8 @@ fn request(image: &[u8], call: &Call) -> Option<Request> {
         Call::Write { slot, bodies, lengths } => {
             (6, [*slot, 0, 0, 0], bodies.clone(), bytes_of(lengths))
         },
+        Call::Create { fields, n } => (7, [*n, 0, 0, 0], fields.clone(), Vec::new()),
+        Call::Delete { slot } => (8, [*slot, 0, 0, 0], Vec::new(), Vec::new()),
         Call::Listing => return None,
     };
     Some(Request {
@@ -205,6 +208,11 @@ impl Request {
                 bodies: self.lent[1].clone(),
                 lengths: lengths_of(&self.lent[2]),
             },
+            7 => Call::Create {
+                fields: self.lent[1].clone(),
+                n: slot,
+            },
+            8 => Call::Delete { slot },
             _ => return Err(io::Error::other("no such call")),
         })
     }

@@ -186,17 +186,38 @@ impl Run<'_> {
         call
     }
 
-    /// The name of a slot with a change, or one of any length.
-    fn name(&mut self) -> Vec<u8> {
-        let at = label(&mut self.input) + 6;
-        let mut name: Vec<u8> = self.image.iter().skip(at).take(17).copied().collect();
+    /// Positions of the label in a slot with a change, or of a length below a
+    /// bound.
+    fn of_label(&mut self, positions: impl Iterator<Item = usize>, bound: usize) -> Vec<u8> {
+        let at = label(&mut self.input);
+        let bytes = positions.filter_map(|position| self.image.get(at + position));
+        let mut bytes: Vec<u8> = bytes.copied().collect();
         let length = usize::from(self.input.byte());
         if length > 0 {
-            name.resize(length % 32, b' ');
+            bytes.resize(length % bound, b' ');
         }
         let at = usize::from(self.input.byte());
-        put(&mut name, at, &self.input.run());
-        name
+        put(&mut bytes, at, &self.input.run());
+        bytes
+    }
+
+    /// The name of a slot with a change, or one of any length.
+    fn name(&mut self) -> Vec<u8> {
+        self.of_label(6..=22, 32)
+    }
+
+    /// A create with the fields of a slot, changed likewise, or a delete.
+    fn placing(&mut self) -> Call {
+        if self.input.byte() & 1 == 1 {
+            return Call::Delete {
+                slot: self.input.number(),
+            };
+        }
+        let positions = (6..=27).chain([40, 44, 54, 55, 56, 57, 63]);
+        Call::Create {
+            fields: self.of_label(positions, 64),
+            n: self.input.number(),
+        }
     }
 
     /// A list of records; now and then its bytes are not the sum.
@@ -236,7 +257,8 @@ impl Run<'_> {
                 self.reading(place, turn == 6)
             }
             turn @ 7..=9 => self.reading(self.next, turn > 7),
-            _ => self.list(),
+            10 => self.list(),
+            _ => self.placing(),
         }
     }
 
@@ -252,13 +274,13 @@ impl Run<'_> {
 
 impl Bases {
     /// Runs an input: each call is compared by `compare`, which gives what the
-    /// library did if that is right. The codes that were answered; none from
-    /// the first call on that was not right.
+    /// library did if that is right. The names of the calls with the codes that
+    /// were answered; none from the first call on that was not right.
     pub fn run(
         &self,
         input: &[u8],
         mut compare: impl FnMut(&Case) -> io::Result<Option<Outcome>>,
-    ) -> io::Result<Option<Vec<u8>>> {
+    ) -> io::Result<Option<Vec<(&'static str, u8)>>> {
         let mut run = self.begin(Bytes(input));
         let mut codes = Vec::new();
         while codes.is_empty() || !run.input.0.is_empty() && codes.len() < MOST_CALLS {
@@ -270,7 +292,7 @@ impl Bases {
             let Some(outcome) = compare(&case)? else {
                 return Ok(None);
             };
-            codes.push(code(outcome.returned));
+            codes.push((case.call.name(), code(outcome.returned)));
             run.goes_on(&case.call, outcome);
         }
         Ok(Some(codes))

@@ -145,6 +145,11 @@ impl Geometry {
         image[ordinal * INDEX_SECTOR]
     }
 
+    /// Gives an index sector another kind.
+    pub fn set_index_kind(image: &mut [u8], ordinal: usize, kind: u8) {
+        image[ordinal * INDEX_SECTOR] = kind;
+    }
+
     /// The walk over data records `first` to `last`, both included.
     pub fn walk(&self, first: usize, last: usize) -> Walk {
         Walk {

@@ -3,6 +3,8 @@
 
 pub mod account;
 pub mod cover;
+pub mod created;
+pub mod creating;
 pub mod drive;
 pub mod edges;
 pub mod file;
@@ -13,6 +15,7 @@ pub mod layout;
 pub mod listing;
 pub mod make;
 pub mod met;
+pub mod met_slots;
 pub mod model;
 pub mod odd;
 pub mod options;
@@ -22,12 +25,15 @@ pub mod properties;
 pub mod reading;
 pub mod refusal;
 pub mod session;
+pub mod slots;
 pub mod text;
+pub mod uncreated;
 pub mod unwritten;
 pub mod volume;
 pub mod writing;
 pub mod written;
 
+pub use creating::{create, delete, Placed};
 pub use file::{count, find, free, Found};
 pub use layout::Geometry;
 pub use listing::listing;

@@ -193,7 +193,8 @@ pub fn facts(before: &[u8], list: &List, packed: u64, after: &[u8]) -> Vec<Fact>
     }
 }
 
-fn named(title: &'static str, rows: &[(bool, &str)]) -> Vec<Fact> {
+/// The rows of a table that were met.
+pub fn named(title: &'static str, rows: &[(bool, &str)]) -> Vec<Fact> {
     let met = rows.iter().filter(|row| row.0);
     met.map(|row| (title, row.1.to_string())).collect()
 }

@@ -1,7 +1,7 @@
 //! One call with all it lends, and its whole answer.
 
 use crate::reading::Place;
-use crate::{file, listing, packed, reading, volume, writing};
+use crate::{creating, file, listing, packed, reading, volume, writing};
 
 #[derive(Clone, Debug, PartialEq, Eq)]
 pub enum Call {
@@ -32,7 +32,32 @@ pub enum Call {
         bodies: Vec<u8>,
         lengths: Vec<u32>,
     },
+    Create {
+        fields: Vec<u8>,
+        n: u64,
+    },
+    Delete {
+        slot: u64,
+    },
     Listing,
+}
+
+impl Call {
+    /// The call's name.
+    pub fn name(&self) -> &'static str {
+        match self {
+            Call::Judge => "judge",
+            Call::Find { .. } => "find",
+            Call::Count { .. } => "count",
+            Call::Free => "free",
+            Call::Read { .. } => "read",
+            Call::Salvage { .. } => "salvage",
+            Call::Write { .. } => "write",
+            Call::Create { .. } => "create",
+            Call::Delete { .. } => "delete",
+            Call::Listing => "listing",
+        }
+    }
 }
 
 /// The packed number and every lent byte afterwards.
@@ -91,6 +116,8 @@ pub fn answer(image: &[u8], call: &Call) -> Answer {
         Call::Write { slot, bodies, lengths } => {
             packed::number(&writing::write(&mut after, *slot, bodies, lengths))
         },
+        Call::Create { fields, n } => packed::placed(&creating::create(&mut after, fields, *n)),
+        Call::Delete { slot } => packed::number(&creating::delete(&mut after, *slot)),
         Call::Listing => 0,
     };
     Answer {

@@ -1,5 +1,6 @@
 //! The one 64-bit number of every call, and back apart again.
 
+use crate::creating::Placed;
 use crate::file::Found;
 use crate::layout::Geometry;
 use crate::reading::{Place, Reading};
@@ -43,7 +44,16 @@ pub fn found(answer: &Result<Found, Refusal>) -> u64 {
     }
 }
 
-/// Counts of blocks, free records and blocks written.
+/// "slot in bits 24-55; the start as the number of its five digits
+/// (cylinder·1000 + side·100 + sector) in bits 0-23"
+pub fn placed(answer: &Result<Placed, Refusal>) -> u64 {
+    match answer {
+        Ok(placed) => (placed.slot as u64) << 24 | placed.start as u64,
+        Err(refused) => refusal(refused),
+    }
+}
+
+/// Counts of blocks, free records, blocks written and records freed.
 pub fn number(answer: &Result<u64, Refusal>) -> u64 {
     match answer {
         Ok(number) => *number,
@@ -99,6 +109,14 @@ pub fn reading_of(packed: u64) -> Option<Result<Reading, Refusal>> {
         END => Some(Ok(Reading::End { next })),
         _ => refusal_of(packed).map(Err),
     }
+}
+
+/// Where a file was created.
+pub fn placed_of(packed: u64) -> Option<Placed> {
+    (code(packed) == 0).then_some(Placed {
+        slot: (packed >> 24 & 0xFFFF_FFFF) as usize,
+        start: (packed & 0xFF_FFFF) as usize,
+    })
 }
 
 /// The numbers of an accepted volume.

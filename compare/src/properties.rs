@@ -4,22 +4,24 @@ use crate::account::{self, Ground, List};
 use crate::file::count;
 use crate::layout::Geometry;
 use crate::make::build::{volume, Volume};
+use crate::make::create_cases::right_fields;
 use crate::make::file::{FilePlan, Want};
 use crate::make::read_cases::lose;
 use crate::make::rng::Rng;
 use crate::make::volume_cases::Made;
-use crate::make::{case, write_cases, Case};
+use crate::make::{case, placing, write_cases, Case};
 use crate::model::{answer, Answer, Call};
 use crate::packed::{code, refusal_of};
 use crate::reading::{read, salvage, Place, Reading};
 use crate::refusal::Refusal;
+use crate::slots::{self, Held};
 use crate::text::address;
 use crate::volume::{judge, label_in};
 
 type Property = (&'static str, fn(u64, usize, usize) -> Result<(), String>);
 
 /// Every property with its name.
-pub const PROPERTIES: [Property; 9] = [
+pub const PROPERTIES: [Property; 13] = [
     ("lent bytes stay", lent_bytes),
     ("read-back", read_back),
     ("every write is accounted for", accounted),
@@ -29,6 +31,10 @@ pub const PROPERTIES: [Property; 9] = [
     ("following never answers 19", following),
     ("equal index and extent, equal answers", equal_answers),
     ("the mark counts in salvage of S only", marks),
+    ("every create and delete is accounted for", placings),
+    ("creates and deletes leave all other files", others_stay),
+    ("room freed by a delete is used again", used_again),
+    ("a create minds no data", data_unminded),
 ];
 
 /// Checks all properties on numbered cases; the counts per property, or the
@@ -69,6 +75,9 @@ pub fn lent_bytes_stay(case: &Case) -> Result<(), String> {
     let done = code(given.packed) == 0;
     match &case.call {
         Call::Write { .. } if done => only_the_file_changed(case, &given),
+        Call::Create { .. } | Call::Delete { .. } => {
+            slots::holds(&case.image, &given.image, &case.call, given.packed)
+        }
         Call::Read { out, .. } | Call::Salvage { out, .. } => {
             let length = if done {
                 given.packed >> 32 & 0xFF_FFFF
@@ -480,4 +489,86 @@ fn format_of(image: &[u8], slot: u64) -> Option<u8> {
         return None;
     }
     label_in(image, slot).map(|label| label[39])
+}
+
+/// The account of a create or delete, which is none of `creating`, names the
+/// same number and the same bytes.
+fn placings(seed: u64, index: usize, largest: usize) -> Result<(), String> {
+    lent_bytes_stay(&placing(seed, index, largest))
+}
+
+/// "Existing files read as before." The volume is judged as before, and the
+/// free count moves by what was taken or freed.
+fn others_stay(seed: u64, index: usize, largest: usize) -> Result<(), String> {
+    let case = placing(seed, index, largest);
+    let given = answer(&case.image, &case.call);
+    if code(given.packed) != 0 {
+        return Ok(());
+    }
+    let free = |image: &[u8]| answer(image, &Call::Free).packed;
+    let (slot, right) = match case.call {
+        Call::Create { n, .. } => (given.packed >> 24, free(&given.image) + n),
+        Call::Delete { slot } => (slot, free(&given.image).wrapping_sub(given.packed)),
+        _ => return Ok(()),
+    };
+    ensure(free(&case.image) == right, || "free records".to_string())?;
+    ensure(judge(&given.image) == judge(&case.image), || {
+        "judged otherwise".to_string()
+    })?;
+    let slots = judge(&case.image).map_or(0, |geometry| geometry.slots()) as u64;
+    for other in (1..=slots).filter(|&other| other != slot) {
+        let same = dump(&case.image, other, true) == dump(&given.image, other, true)
+            && count(&case.image, other) == count(&given.image, other);
+        ensure(same, || format!("slot {other} reads otherwise"))?;
+    }
+    Ok(())
+}
+
+/// "Room freed by a delete is used again": any number of records up to as many
+/// as were freed is had right behind it.
+fn used_again(seed: u64, index: usize, largest: usize) -> Result<(), String> {
+    let case = placing(seed, index, largest);
+    let given = answer(&case.image, &case.call);
+    let (Call::Delete { .. }, 0) = (&case.call, code(given.packed)) else {
+        return Ok(());
+    };
+    let geometry = judge(&given.image).map_err(|refused| format!("{refused:?}"))?;
+    let mut rng = Rng::for_case(seed ^ 0xA6, index as u64);
+    for n in [
+        1,
+        rng.between(1, given.packed as usize) as u64,
+        given.packed,
+    ] {
+        let fields = right_fields(&mut rng, &geometry);
+        let again = answer(&given.image, &Call::Create { fields, n });
+        ensure(code(again.packed) == 0, || {
+            format!("{n}: {:?}", refusal_of(again.packed))
+        })?;
+    }
+    Ok(())
+}
+
+/// "free does not look at marks": whatever stands in the data, a create gives
+/// the same number and the same label.
+fn data_unminded(seed: u64, index: usize, largest: usize) -> Result<(), String> {
+    let case = placing(seed, index, largest);
+    let (Call::Create { .. }, Ok(held)) = (&case.call, Held::of(&case.image)) else {
+        return Ok(());
+    };
+    let mut rng = Rng::for_case(seed ^ 0xDA, index as u64);
+    let mut other = case.image.clone();
+    let (k, p) = (held.geometry.k, held.geometry.p());
+    for &(_, at) in &held.addresses {
+        other[at] = k + rng.pick(&[0, 16, 32]);
+        other[at + 1..=at + p].fill(rng.byte());
+    }
+    let (one, two) = (answer(&case.image, &case.call), answer(&other, &case.call));
+    let index = held.geometry.s * held.geometry.i * 129;
+    ensure(one.packed == two.packed, || "answers differ".to_string())?;
+    ensure(one.image[..index] == two.image[..index], || {
+        "labels differ".to_string()
+    })?;
+    ensure(two.image[index..] == other[index..], || {
+        "data changed".to_string()
+    })
 }

@@ -8,6 +8,7 @@ use crate::make::Case;
 use crate::model::Call;
 use crate::options::SHOWN;
 use crate::packed::in_words;
+use crate::slots;
 use std::io;
 
 /// The driver, and what has been compared so far.
@@ -50,7 +51,7 @@ impl Session {
 
     /// Compares the answers to a case. The number that the library returned,
     /// if it is the right one and every byte is as it should be; of a write,
-    /// by its account too.
+    /// create or delete, by its account too.
     pub fn compare(&mut self, case: &Case) -> io::Result<Option<u64>> {
         let alike = self.compare_whole(case)?;
         Ok(alike.map(|outcome| outcome.returned))
@@ -111,12 +112,11 @@ impl Session {
 
     fn count(&mut self, case: &Case, outcome: &Outcome) {
         let [image, out, _] = &outcome.lent;
-        if let Call::Write { .. } = case.call {
-            self.cover.count_writing(case, outcome.returned, image);
-        } else {
-            let call = &case.call;
-            self.cover
-                .count_reading(&case.image, call, outcome.returned, out);
+        let (call, returned) = (&case.call, outcome.returned);
+        match call {
+            Call::Write { .. } => self.cover.count_writing(case, returned, image),
+            Call::Create { .. } | Call::Delete { .. } => self.cover.count_placing(case, returned),
+            _ => self.cover.count_reading(&case.image, call, returned, out),
         }
     }
 
@@ -142,11 +142,13 @@ impl Session {
     }
 }
 
-/// Whether a write left what the account of it says.
+/// Whether a write, a create or a delete left what the account of it says.
 pub fn accounted(case: &Case, outcome: &Outcome) -> Result<(), String> {
-    let list = List::of(&case.call);
-    let account = |list| holds(&case.image, &outcome.lent[0], &list, outcome.returned);
-    list.map_or(Ok(()), account)
+    let (before, after, returned) = (&case.image, &outcome.lent[0], outcome.returned);
+    match List::of(&case.call) {
+        Some(list) => holds(before, after, &list, returned),
+        None => slots::holds(before, after, &case.call, returned),
+    }
 }
 
 /// How much of a call is printed.
@@ -180,6 +182,7 @@ fn said(outcome: &Outcome, right: &Outcome, case: &Case) -> String {
     }
     let names = match case.call {
         Call::Write { .. } => ["image", "bodies", "lengths"],
+        Call::Create { .. } => ["image", "fields", "third string"],
         _ => ["image", "output", "third string"],
     };
     for ((is, should), name) in outcome.lent.iter().zip(&right.lent).zip(names) {

@@ -80,8 +80,13 @@ pub fn data_end_address(digits: &[u8], geometry: &Geometry) -> Option<usize> {
 /// The five digits of a record's number; the number of records itself gives
 /// cylinder L+1, side 0, sector 01. The step is to the next number.
 pub fn address_digits(record: usize, geometry: &Geometry) -> [u8; 5] {
+    five_digits(address_number(record, geometry))
+}
+
+/// The same digits as one number.
+pub fn address_number(record: usize, geometry: &Geometry) -> usize {
     let sector = record % geometry.d + 1;
     let side = record / geometry.d % geometry.s;
     let cylinder = record / (geometry.d * geometry.s) + 1;
-    five_digits(cylinder * 1000 + side * 100 + sector)
+    cylinder * 1000 + side * 100 + sector
 }

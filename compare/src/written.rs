@@ -25,9 +25,17 @@ const MOST_READ_BESIDE: usize = 60;
 
 /// A volume on its way through writes.
 pub struct Writer<'a> {
-    session: &'a mut Session,
-    rng: &'a mut Rng,
-    case: Case,
+    pub(crate) session: &'a mut Session,
+    pub(crate) rng: &'a mut Rng,
+    pub(crate) case: Case,
+}
+
+/// The search for the name in a slot of an accepted volume.
+pub(crate) fn found_by_name(image: &[u8], slot: u64) -> Option<Call> {
+    let label = label_in(image, slot as usize)?;
+    Some(Call::Find {
+        name: label[5..22].to_vec(),
+    })
 }
 
 /// Every place from Start to the one where reading ends, with the records
@@ -81,16 +89,22 @@ impl<'a> Writer<'a> {
         }
     }
 
-    /// A write; whether it was done, and rightly. The image is then the
-    /// written one.
+    /// A write, create or delete; whether it was done, and rightly. The image
+    /// is then the one that it left.
     pub fn write(&mut self, call: Call) -> io::Result<bool> {
+        let returned = self.change(call)?;
+        Ok(returned.is_some_and(|returned| code(returned) == 0))
+    }
+
+    /// The same; the number that was returned, if it was the right one.
+    pub(crate) fn change(&mut self, call: Call) -> io::Result<Option<u64>> {
         self.case.call = call;
-        let Some(outcome) = self.session.compare_whole(&self.case)? else {
-            return Ok(false);
-        };
-        let [after, ..] = outcome.lent;
-        self.case.image = after;
-        Ok(code(outcome.returned) == 0)
+        let outcome = self.session.compare_whole(&self.case)?;
+        Ok(outcome.map(|outcome| {
+            let [after, ..] = outcome.lent;
+            self.case.image = after;
+            outcome.returned
+        }))
     }
 
     /// A write, and if it was done all that is asked behind it, of a long
@@ -102,18 +116,21 @@ impl<'a> Writer<'a> {
         }
         if let Some(list) = List::of(&call) {
             self.read_back(&list, most)?;
-            self.others_read_as(&before, list.slot)?;
+            let mut calls = vec![Call::Judge, Call::Free];
+            calls.extend(found_by_name(&before, list.slot));
+            calls.extend(self.calls_of_others(&before, list.slot));
+            self.answers_as(&before, calls)?;
         }
         Ok(())
     }
 
     /// What has to hold behind the last call.
-    fn demand(&mut self, holds: bool, why: impl FnOnce() -> String) {
+    pub(crate) fn demand(&mut self, holds: bool, why: impl FnOnce() -> String) {
         let held = if holds { Ok(()) } else { Err(why()) };
         self.session.demand(&self.case, held);
     }
 
-    fn ask(&mut self, call: Call) -> io::Result<Option<(u64, Vec<u8>)>> {
+    pub(crate) fn ask(&mut self, call: Call) -> io::Result<Option<(u64, Vec<u8>)>> {
         self.case.call = call;
         let outcome = self.session.compare_whole(&self.case)?;
         Ok(outcome.map(|outcome| {
@@ -163,32 +180,30 @@ impl<'a> Writer<'a> {
         Ok(())
     }
 
-    /// The judgement, free records, every name, and the count and records of
-    /// every other file answer as they did before the write.
-    fn others_read_as(&mut self, before: &[u8], written: u64) -> io::Result<()> {
-        let slots = judge(before).map_or(0, |geometry| geometry.slots());
-        let mut calls = vec![Call::Judge, Call::Free];
-        for slot in 1..=slots {
-            let Some(label) = label_in(before, slot) else {
-                continue;
-            };
-            calls.push(Call::Find {
-                name: label[5..22].to_vec(),
-            });
-            if slot as u64 != written {
-                calls.push(Call::Count { slot: slot as u64 });
-                calls.extend(self.readings_of(before, slot as u64));
+    /// The name, the count and the records of every file but one, of which
+    /// something was changed.
+    pub(crate) fn calls_of_others(&mut self, before: &[u8], changed: u64) -> Vec<Call> {
+        let slots = judge(before).map_or(0, |geometry| geometry.slots()) as u64;
+        let mut calls = Vec::new();
+        for slot in (1..=slots).filter(|&slot| slot != changed) {
+            if label_in(before, slot as usize).is_some() {
+                calls.extend(found_by_name(before, slot));
+                calls.push(Call::Count { slot });
+                calls.extend(self.readings_of(before, slot));
             }
         }
+        calls
+    }
+
+    /// Calls that answer as they did before.
+    pub(crate) fn answers_as(&mut self, before: &[u8], calls: Vec<Call>) -> io::Result<()> {
         for call in calls {
             let right = answer(before, &call);
             let Some((returned, out)) = self.ask(call)? else {
                 return Ok(());
             };
             let same = returned == right.packed && (right.out.is_empty() || right.out == out);
-            self.demand(same, || {
-                "it answered otherwise before the write".to_string()
-            });
+            self.demand(same, || "it answered otherwise before".to_string());
         }
         Ok(())
     }

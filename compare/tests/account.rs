@@ -1,5 +1,5 @@
-//! The account of a write: it says what the documents' examples say, and of
-//! one image only that it is right.
+//! The account of a write, of a create and of a delete: it says what the
+//! documents' examples say, and of one image only that it is right.
 
 mod common;
 
@@ -11,7 +11,8 @@ use compare::make::grounds::{ground, GROUNDS};
 use compare::make::lists::{list, Takes};
 use compare::make::pack::pack;
 use compare::make::rng::Rng;
-use compare::make::sample::Plain;
+use compare::make::sample::{sample, Plain};
+use compare::slots::{self, Held};
 use compare::{answer, judge, packed, Call, Refusal};
 
 fn written(plain: &Plain, lengths: &[usize]) -> (Call, u64, Vec<u8>) {
@@ -118,4 +119,74 @@ fn every_ground_is_accepted_and_lists_take_what_they_say() {
             assert!(any || fits != exceeds, "{number}, {takes:?}");
         }
     }
+}
+
+fn placed(image: &[u8], call: &Call) -> (u64, Vec<u8>) {
+    let given = answer(image, call);
+    let held = slots::holds(image, &given.image, call, given.packed);
+    assert_eq!(held, Ok(()));
+    (given.packed, given.image)
+}
+
+#[test]
+fn the_account_of_a_create_and_of_a_delete_is_of_one_image_only() {
+    let image = sample();
+    let create = Call::Create {
+        fields: b"NEW              00030V20020B".to_vec(),
+        n: 9,
+    };
+    for (call, right) in [(create, 2 << 24 | 4001), (Call::Delete { slot: 3 }, 16)] {
+        let (packed, after) = placed(&image, &call);
+        assert_eq!(packed, right);
+        for at in 0..after.len() {
+            let mut wrong = after.clone();
+            wrong[at] ^= 0x21;
+            assert!(slots::holds(&image, &wrong, &call, packed).is_err());
+        }
+        assert!(slots::holds(&image, &image, &call, packed).is_err());
+        assert!(slots::holds(&image, &after[1..], &call, packed).is_err());
+        for wrong in [packed + 1, packed + (1 << 24), 13 << 56, 29 << 56] {
+            assert!(slots::holds(&image, &after, &call, wrong).is_err());
+        }
+    }
+}
+
+#[test]
+fn the_account_of_a_refused_create_or_delete_has_its_number_and_place() {
+    let image = sample();
+    let create = |name: &str, n| Call::Create {
+        fields: format!("{name:<17}00030V20020B").into_bytes(),
+        n,
+    };
+    let rows = [
+        (create("NEW#", 1), Refusal::at_two(10, 0, 6)),
+        (create("NEW", 0), Refusal::at_two(10, 0, 35)),
+        (create("LOG", 1), Refusal::at(12, 3)),
+        (create("NEW", 17), Refusal::bare(29)),
+        (Call::Delete { slot: 2 }, Refusal::bare(13)),
+    ];
+    for (call, refusal) in rows {
+        let (packed, after) = placed(&image, &call);
+        assert_eq!(packed, packed::refusal(&refusal));
+        assert_eq!(after, image);
+        let other = packed::refusal(&Refusal::bare(28));
+        assert!(slots::holds(&image, &image, &call, other).is_err());
+        let mut changed = image.clone();
+        changed[900] ^= 1;
+        assert!(slots::holds(&image, &changed, &call, packed).is_err());
+    }
+}
+
+/// Stretches and runs of the sample: 04001 to 05008 are free.
+#[test]
+fn the_account_counts_addresses_one_by_one() {
+    let image = sample();
+    let held = Held::of(&image).expect("accepted");
+    assert_eq!(held.stretches(), [(24, 16)]);
+    assert_eq!(held.lowest_run(16), Some(24));
+    assert_eq!(held.lowest_run(17), None);
+    assert_eq!(held.lowest_run(u64::MAX), None);
+    assert_eq!(held.deleted(), [2]);
+    assert_eq!(held.named(b"LOG              "), Some(3));
+    assert_eq!(held.named(b"LOGS             "), None);
 }

@@ -44,6 +44,9 @@ fn the_program_itself_behind_a_pipe_differs_nowhere() {
         "rewritten",
         "unwritten",
         "written large",
+        "created",
+        "uncreated",
+        "chains",
     ] {
         let line = text
             .lines()
@@ -58,7 +61,8 @@ fn what_is_never_reached_is_a_failure() {
     let output = run(DRIVEN, &few);
     assert_eq!(output.status.code(), Some(1));
     let text = text(&output);
-    assert!(text.contains("\nnever reached: refusals: 18\n"));
+    assert!(text.contains("\nnever reached: refusals: 19\n"));
+    assert!(text.contains("\nnever reached: chains: created until 28\n"));
     assert!(!text.contains("DIFFERENT"));
 }
 

@@ -1,8 +1,9 @@
 //! The case maker, its cover, the properties, and inputs of any kind.
 
 use compare::cover::cover;
+use compare::make::create_cases;
 use compare::make::rng::Rng;
-use compare::make::{case, cases, counted, sample, sizes, Case, FAMILIES, LEAST};
+use compare::make::{case, cases, counted, placings, sample, sizes, Case, FAMILIES, LEAST};
 use compare::packed::{code, geometry_of, reading_of, refusal, refusal_of};
 use compare::properties::{check, lent_bytes_stay};
 use compare::{answer, count, judge, read, Call, Geometry, Place, Reading, Refusal};
@@ -44,7 +45,7 @@ fn counted_cases_keep_lent_bytes_and_are_many() {
     assert_eq!(number, COUNTED);
 }
 
-const COUNTED: usize = 262_644;
+const COUNTED: usize = 311_058;
 
 #[test]
 fn the_first_cases_touch_every_family() {
@@ -59,6 +60,19 @@ fn the_first_cases_touch_every_family() {
 fn images_are_no_larger_than_asked() {
     for largest in [0, LEAST, 3_000, 20_000] {
         for made in cases(SEED, 400, largest) {
+            assert!(made.image.len() <= largest.max(LEAST), "{}", made.family);
+        }
+    }
+}
+
+#[test]
+fn creates_and_deletes_touch_every_family_and_are_no_larger_than_asked() {
+    let count = create_cases::FAMILIES.len();
+    let families: BTreeSet<&str> = placings(SEED, count, 6_000).map(|c| c.family).collect();
+    let all: BTreeSet<&str> = create_cases::FAMILIES.iter().map(|f| f.0).collect();
+    assert_eq!(families, all);
+    for largest in [0, LEAST, 3_000, 20_000] {
+        for made in placings(SEED, 300, largest) {
             assert!(made.image.len() <= largest.max(LEAST), "{}", made.family);
         }
     }
@@ -86,6 +100,13 @@ fn the_same_seed_gives_the_same_cases_on_every_machine() {
 }
 
 const DIGEST: u64 = 5_447_709_138_830_121_824;
+
+#[test]
+fn creates_and_deletes_are_the_same_on_every_machine() {
+    assert_eq!(digest(placings(SEED, 300, 6_000)), DIGEST_OF_CREATING);
+}
+
+const DIGEST_OF_CREATING: u64 = 12_760_141_207_822_259_047;
 
 /// Every call on an image, with numbers of any size.
 fn call_all(rng: &mut Rng, image: &[u8]) {
@@ -119,6 +140,13 @@ fn call_all(rng: &mut Rng, image: &[u8]) {
             slot: rng.pick(&[1, 2, 3]),
             bodies: vec![1; length],
             lengths: vec![u32::MAX; rng.below(4)],
+        },
+        Call::Create {
+            fields: rng.telling_bytes(rng.clone().pick(&[28, 29, 29, 29])),
+            n: rng.pick(&numbers),
+        },
+        Call::Delete {
+            slot: rng.pick(&numbers),
         },
     ];
     for call in calls {

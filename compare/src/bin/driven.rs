@@ -2,12 +2,14 @@
 //! number that each call returns, and every lent byte afterwards.
 
 use compare::layout::Geometry;
+use compare::make::build::plain_geometry;
+use compare::make::create_cases::right_fields;
 use compare::make::rng::Rng;
 use compare::make::sample::{named, NAMES};
 use compare::make::{bad::bad, cases, counted, Case};
 use compare::options::{Options, SEED};
 use compare::session::Session;
-use compare::{edges, follow, judge, odd, unwritten, written, Call};
+use compare::{created, edges, follow, judge, odd, uncreated, unwritten, written, Call};
 use std::io;
 use std::process::ExitCode;
 
@@ -16,7 +18,7 @@ driven [--seed N] [--count N] [--largest BYTES] [--every N] -- COMMAND..
 
 Runs the driver by COMMAND and compares with it
 - the samples, up to the largest volume, and so many drawn cases, with images of at most so many bytes, each asked for
-  its judgement, its free records, blocks of slots, files of names and what the case itself asks;
+  its judgement, its free records, blocks of slots, files of names, a create, a delete and what the case itself asks;
 - of the cases that are counted out, one of every N;
 - bad input: random bytes, a volume cut to every length, every value of every
   byte of its VOL1 and ERMAP sectors;
@@ -28,9 +30,12 @@ Runs the driver by COMMAND and compares with it
   done every byte of the image is accounted for, the file is read back, all other files are read, judgement, free records
   and names are asked again; of files of more than a thousand records some;
 - refused writes: each refusal, every set of them at once, wrong sums and lengths, N/8 bad images; and N/4 drawn
-  writes, refused or done.
-What calls of reading, salvage and writing have reached is printed; all of the table has to be. The last line is
-'N passed, M failed'.
+  writes, refused or done;
+- creates and deletes, counted out and N/4 drawn ones, refused or done; behind each that is done every byte of the image
+  is accounted for, and the file, all other files, judgement, free records and names are asked; fields of any bytes; on
+  N/100 volumes chains of deletes, creates and writes until the volume is full and until it is empty.
+What calls of reading, salvage, writing, creating and deleting have reached is printed; all of the table has to be. The
+last line is 'N passed, M failed'.
 ";
 
 const DEFAULTS: [(&str, u64); 4] = [
@@ -64,7 +69,8 @@ fn run(options: &Options) -> io::Result<(usize, usize)> {
     // A driver that answers no more was told of and counted.
     let all = volumes(&mut session, options)
         .and_then(|()| files(&mut session, options))
-        .and_then(|()| writes(&mut session, options));
+        .and_then(|()| writes(&mut session, options))
+        .and_then(|()| placings(&mut session, options));
     match all {
         Ok(()) => session.end(),
         Err(_) => Ok(session.tally()),
@@ -117,6 +123,15 @@ fn writes(session: &mut Session, options: &Options) -> io::Result<()> {
     session.stage("written large", edges::large)
 }
 
+/// Files that are created and deleted.
+fn placings(session: &mut Session, options: &Options) -> io::Result<()> {
+    let (seed, count) = (options.number("seed"), options.count("count"));
+    let largest = options.count("largest");
+    session.stage("created", |on| created::all(on, seed, count / 4, largest))?;
+    session.stage("uncreated", uncreated::all)?;
+    session.stage("chains", |on| created::chains(on, seed, count / 100))
+}
+
 fn samples() -> impl Iterator<Item = Case> {
     let images = NAMES.iter().filter_map(|name| named(name));
     images.map(|image| Case {
@@ -142,6 +157,11 @@ fn asked((number, case): (usize, Case)) -> Vec<Case> {
         });
     }
     calls.push(Call::Count { slot: rng.huge() });
+    let slot = rng.below(slots + 2) as u64;
+    let geometry = judge(&case.image).unwrap_or(plain_geometry(1, 8, 1, 0, 1));
+    let fields = right_fields(&mut rng, &geometry);
+    let n = rng.between(1, 3) as u64;
+    calls.extend([Call::Delete { slot }, Call::Create { fields, n }]);
     calls
         .into_iter()
         .map(|call| Case {

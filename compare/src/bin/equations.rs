@@ -6,7 +6,7 @@
 //! so that this file knows only the names that it cites.
 
 use compare::cover::Cover;
-use compare::make::{cases, counted, Case};
+use compare::make::{cases, counted, placings, Case};
 use compare::packed::{code, GAP};
 use compare::{answer, listing, Call};
 use std::collections::BTreeMap;
@@ -23,7 +23,7 @@ equations DEFINITIONS OUT --image FILE
 Writes the crates equations_1, equations_2 .. below the folder OUT, equations
 about each case: DEFINITIONS is the folder specs/ of the crate standard. First
 come cases that reach every refusal, position, answer and shape between them,
-then salvages that give gaps and go on behind them; half of the rest are drawn from the seed, with images of at most so many bytes,
+those of creating and deleting for themselves, then salvages that give gaps and go on behind them; half of the rest are drawn from the seed, with images of at most so many bytes,
 half are taken evenly from those counted out.
 With --image the cases are the judgement, the free records and the listing of
 that image, and the listing is printed.
@@ -115,7 +115,11 @@ fn write_crates(definitions: &Path, out: &Path, options: &Options) -> io::Result
 
 fn chosen(options: &Options) -> io::Result<Vec<Case>> {
     let Some(file) = &options.image else {
-        let mut all = covering(options)?;
+        let small = cases(options.seed, LOOKED_AT, options.largest);
+        let roomy = cases(options.seed, LOOKED_AT, options.largest.max(ROOMY));
+        let mut all = covering(Cover::new(), small.chain(roomy), &[LEFT_OUT])?;
+        let placings = placings(options.seed, LOOKED_AT, options.largest);
+        all.extend(covering(Cover::of_creating(), placings, &[])?);
         all.extend(salvaged(options, |mark, code| mark == 0 && code == GAP));
         all.extend(salvaged(options, |mark, code| mark != 0 && code == GAP));
         all.extend(salvaged(options, |mark, code| mark != 0 && code == 0));
@@ -145,14 +149,16 @@ const ROOMY: usize = 8_000;
 const LEFT_OUT: &str = "listings: TOO LONG";
 
 /// Cases that reach every refusal, judged position, answer and shape between
-/// them: each the first that reaches something new.
-fn covering(options: &Options) -> io::Result<Vec<Case>> {
-    let small = cases(options.seed, LOOKED_AT, options.largest);
-    let roomy = cases(options.seed, LOOKED_AT, options.largest.max(ROOMY));
-    let mut cover = Cover::new();
+/// them, or all else that a cover has: each the first that reaches something
+/// new.
+fn covering(
+    mut cover: Cover,
+    drawn: impl Iterator<Item = Case>,
+    left_out: &[&str],
+) -> io::Result<Vec<Case>> {
     let mut missing = cover.missing();
     let mut taken = Vec::new();
-    for case in small.chain(roomy) {
+    for case in drawn {
         let mut with = cover.clone();
         with.count(&case);
         let left = with.missing();
@@ -160,7 +166,7 @@ fn covering(options: &Options) -> io::Result<Vec<Case>> {
             (cover, missing) = (with, left);
             taken.push(case);
         }
-        if missing == [LEFT_OUT] {
+        if missing == left_out {
             return Ok(taken);
         }
     }
@@ -260,12 +266,16 @@ impl Preamble {
 }
 
 /// Those of the cited names that are no `unfoldable` definitions.
-const CITED: [&str; 5] = [
+const CITED: [&str; 9] = [
     "bytes",
     "readAnswer",
     "outputAfter",
     "written",
     "imageAfter",
+    "created",
+    "imageAfterCreate",
+    "deleted",
+    "imageAfterDelete",
 ];
 
 /// The modules that hold definitions: the examples and edges hold facts.
@@ -298,6 +308,10 @@ fn facts(number: usize, image: &[u8], call: &Call) -> Vec<String> {
     let found = answer(image, call);
     let packed = found.packed;
     let image_name = format!("image-{number}");
+    let after = |name: String| match found.image == image {
+        true => name,
+        false => list(&found.image),
+    };
     match call {
         Call::Judge => vec![format!("packedJudged (judged {image_name}) ≡ {packed}")],
         Call::Find { name } => {
@@ -345,14 +359,23 @@ fn facts(number: usize, image: &[u8], call: &Call) -> Vec<String> {
         } => {
             let lengths: String = lengths.iter().map(|n| format!("{n} ∷ ")).collect();
             let call = format!("{image_name} {slot} ({}) ({lengths}[])", list(bodies));
-            let after = if found.image == image {
-                image_name
-            } else {
-                list(&found.image)
-            };
             vec![
                 format!("packedWritten (written {call}) ≡ {packed}"),
-                format!("imageAfter {call} ≡ ({after})"),
+                format!("imageAfter {call} ≡ ({})", after(image_name)),
+            ]
+        }
+        Call::Create { fields, n } => {
+            let call = format!("{image_name} ({}) {n}", list(fields));
+            vec![
+                format!("packedCreated (created {call}) ≡ {packed}"),
+                format!("imageAfterCreate {call} ≡ ({})", after(image_name)),
+            ]
+        }
+        Call::Delete { slot } => {
+            let call = format!("{image_name} {slot}");
+            vec![
+                format!("packedCounted (deleted {call}) ≡ {packed}"),
+                format!("imageAfterDelete {call} ≡ ({})", after(image_name)),
             ]
         }
         Call::Listing => vec![format!("listing {image_name} ≡ ({})", list(&found.out))],

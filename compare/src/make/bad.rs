@@ -34,7 +34,7 @@ fn random(seed: u64, count: usize) -> impl Iterator<Item = Case> {
 }
 
 /// The smallest volume cut to every length, and lengthened by up to a sector.
-fn resized() -> impl Iterator<Item = Case> {
+pub fn resized() -> impl Iterator<Item = Case> {
     let image = smallest();
     (0..=image.len() + INDEX_SECTOR).map(move |length| {
         let mut image = image.clone();

@@ -276,6 +276,24 @@ pub fn lay(volume: &mut Volume, file: &FilePlan) {
     }
 }
 
+/// The 29 bytes "of label fields 6-22, 23-27, 40, 44, 54-57, 63" of a file
+/// that may stand on a volume, all its records good.
+pub fn draw_fields(rng: &mut Rng, geometry: &Geometry) -> Vec<u8> {
+    let good: Vec<usize> = (0..geometry.data_records().min(30)).collect();
+    let (level, shape) = draw_shape(rng, geometry, &good, Want::default());
+    let mut name = [b' '; 17];
+    let length = rng.between(1, if level == b'2' { 17 } else { 8 });
+    for place in name.iter_mut().take(length) {
+        *place = rng.a_character();
+    }
+    let record = record_length(rng, &shape);
+    let mut fields = [&name[..], format!("{:05}", shape.b).as_bytes()].concat();
+    fields.extend([label_format(rng, shape.format), level]);
+    fields.extend(record.bytes());
+    fields.push(if shape.blocked { b'B' } else { b' ' });
+    fields
+}
+
 fn date(rng: &mut Rng) -> String {
     match rng.below(3) {
         0 => "      ".to_string(),
@@ -285,6 +303,14 @@ fn date(rng: &mut Rng) -> String {
             rng.between(1, 12),
             rng.between(1, 31)
         ),
+    }
+}
+
+/// 54-57: "spaces mean R = B".
+fn record_length(rng: &mut Rng, shape: &Shape) -> String {
+    match shape.r == shape.b && (shape.r > 9_999 || rng.chance(50)) {
+        true => "    ".to_string(),
+        false => format!("{:04}", shape.r),
     }
 }
 
@@ -313,11 +339,7 @@ fn write_label(rng: &mut Rng, volume: &mut Volume, file: &FilePlan) {
     };
     volume.set(slot, 46, generation.as_bytes());
     volume.set(slot, 48, date(rng).as_bytes());
-    let spaces = file.shape.r == file.shape.b && (file.shape.r > 9_999 || rng.chance(50));
-    let record = match spaces {
-        true => "    ".to_string(),
-        false => format!("{:04}", file.shape.r),
-    };
+    let record = record_length(rng, &file.shape);
     volume.set(slot, 54, record.as_bytes());
     let unused = match (file.u, rng.chance(50)) {
         (0, true) => "     ".to_string(),

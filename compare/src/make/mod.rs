@@ -5,6 +5,8 @@ pub mod bad;
 pub mod build;
 pub mod calls;
 pub mod content_cases;
+pub mod create_cases;
+pub mod create_tables;
 pub mod fields;
 pub mod file;
 pub mod file_cases;
@@ -37,7 +39,7 @@ pub struct Case {
     pub call: Call,
 }
 
-type Family = (&'static str, fn(&mut Rng, usize) -> Made);
+pub type Family = (&'static str, fn(&mut Rng, usize) -> Made);
 
 /// All families. Case number n is of family n modulo their number, so that
 /// they come interleaved.
@@ -98,10 +100,25 @@ pub const FAMILIES: [Family; 54] = [
     ("listing-too-long", file_cases::listing_too_long),
 ];
 
+/// The numbered case of creating or deleting of a seed; these are numbered by
+/// themselves.
+pub fn placing(seed: u64, index: usize, largest: usize) -> Case {
+    made(&create_cases::FAMILIES, seed ^ 0xC5, index, largest)
+}
+
+/// The first `count` of them.
+pub fn placings(seed: u64, count: usize, largest: usize) -> impl Iterator<Item = Case> {
+    (0..count).map(move |index| placing(seed, index, largest))
+}
+
 /// The numbered case of a seed, with an image of at most `largest` bytes (or
 /// the smallest legal one).
 pub fn case(seed: u64, index: usize, largest: usize) -> Case {
-    let (family, make) = FAMILIES[index % FAMILIES.len()];
+    made(&FAMILIES, seed, index, largest)
+}
+
+fn made(families: &[Family], seed: u64, index: usize, largest: usize) -> Case {
+    let (family, make) = families[index % families.len()];
     let mut rng = Rng::for_case(seed, index as u64);
     let (image, call) = make(&mut rng, largest);
     Case {

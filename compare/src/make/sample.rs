@@ -1,7 +1,7 @@
 //! Volumes made by hand: the sample of document 01's listing and a few more.
 
 use super::build::plain_geometry;
-use super::sizes::{largest, read_sample, smallest, to_write, typical};
+use super::sizes::{largest, read_sample, smallest, to_place, to_write, typical};
 use crate::layout::{Geometry, INDEX_SECTOR};
 use crate::text::address;
 use crate::writing::write;
@@ -217,6 +217,11 @@ pub fn named(name: &str) -> Option<Vec<u8>> {
         "largest" => largest(45),
         "largest-one" => largest(1),
         "largest-none" => largest(0),
-        _ => return read_sample(name).or_else(|| to_write(name).map(|made| made.image)),
+        _ => {
+            let written = || to_write(name).map(|made| made.image);
+            return read_sample(name)
+                .or_else(written)
+                .or_else(|| to_place(name));
+        }
     })
 }

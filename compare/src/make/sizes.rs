@@ -85,6 +85,35 @@ pub fn largest(count: usize) -> Vec<u8> {
     with_files(Plain::new(96, 26, 26, 3, 2), count)
 }
 
+/// Volumes for a create, each with its last slot deleted, and for a delete:
+/// `create-smallest`, without a label; `create-typical`; `create-largest`, with
+/// 44 labels; `create-largest-back`, with their extents in falling order; and
+/// `delete-smallest`, `delete-typical`, `delete-largest`.
+pub fn to_place(name: &str) -> Option<Vec<u8>> {
+    Some(match name {
+        "create-smallest" => Plain::new(1, 8, 1, 0, 1).image,
+        "create-typical" | "delete-typical" => typical(),
+        "create-largest" => largest(44),
+        "create-largest-back" => backward(largest(44), 44),
+        "delete-smallest" => smallest(),
+        "delete-largest" => largest(45),
+        _ => return None,
+    })
+}
+
+/// The first labels of an image in falling order, each with its own name.
+fn backward(mut image: Vec<u8>, count: usize) -> Vec<u8> {
+    const REST: std::ops::Range<usize> = 22..128;
+    let label = |slot: usize| (slot + 6) * 129 + 1;
+    let rests: Vec<Vec<u8>> = (1..=count)
+        .map(|slot| image[label(slot)..][REST].to_vec())
+        .collect();
+    for (slot, rest) in (1..=count).rev().zip(rests) {
+        image[label(slot)..][REST].copy_from_slice(&rest);
+    }
+    image
+}
+
 /// The geometry for a file of so many sectors: L, I, D and S.
 fn room(sectors: usize) -> Option<(usize, usize, usize, usize)> {
     Some(match sectors {

@@ -56,7 +56,7 @@ impl Table {
 }
 
 /// Where a position, from 1, of an index sector, from 01, stands.
-fn index_at(sector: usize, position: usize) -> usize {
+pub(super) fn index_at(sector: usize, position: usize) -> usize {
     (sector - 1) * INDEX_SECTOR + position
 }
 
@@ -154,13 +154,13 @@ fn every_address() -> Table {
     table
 }
 
-const LEVELS: [&[u8]; 5] = [b" ", b"1", b"2", b"7", b"@"];
-const FORMATS: [&[u8]; 5] = [b" ", b"F", b"V", b"S", b"X"];
-const BLOCKINGS: [&[u8]; 3] = [b" ", b"B", b"X"];
-const LENGTHS: [&[u8]; 9] = [
+pub(super) const LEVELS: [&[u8]; 5] = [b" ", b"1", b"2", b"7", b"@"];
+pub(super) const FORMATS: [&[u8]; 5] = [b" ", b"F", b"V", b"S", b"X"];
+pub(super) const BLOCKINGS: [&[u8]; 3] = [b" ", b"B", b"X"];
+pub(super) const LENGTHS: [&[u8]; 9] = [
     b"00000", b"00003", b"00004", b"00005", b"00030", b"00128", b"00129", b"00256", b"00512",
 ];
-const RECORDS: [&[u8]; 8] = [
+pub(super) const RECORDS: [&[u8]; 8] = [
     b"    ", b"0000", b"0003", b"0004", b"0007", b"0010", b"0030", b"0128",
 ];
 const UNUSED: [&[u8]; 5] = [b"     ", b"00001", b"00010", b"00030", b"X    "];
@@ -376,6 +376,7 @@ pub fn tables() -> Vec<Table> {
     }
     tables.extend((0..4).map(every_kind));
     tables.extend(super::places::tables());
+    tables.extend(super::create_tables::tables());
     tables
 }
 
@@ -388,7 +389,7 @@ pub fn counted(largest: usize) -> impl Iterator<Item = Case> {
     fitting.flat_map(Table::cases)
 }
 
-/// For the tables of places and writes.
+/// For the tables of places, writes and creates.
 pub(super) fn table(family: &'static str, plain: &Plain, rows: Vec<(Edits, Call)>) -> Table {
     Table {
         rows,

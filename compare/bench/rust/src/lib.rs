@@ -2,7 +2,7 @@
 //! library's, so that one driver measures both, and a program in C runs over
 //! either.
 
-use compare::{file, packed, reading, volume, writing, Place};
+use compare::{creating, file, packed, reading, volume, writing, Place};
 use std::slice::{from_raw_parts, from_raw_parts_mut};
 
 /// # Safety
@@ -129,4 +129,28 @@ pub unsafe extern "C" fn rust_write(
     let bodies = from_raw_parts(bodies, total as usize);
     let lengths = from_raw_parts(lengths, count as usize);
     packed::number(&writing::write(image, slot, bodies, lengths))
+}
+
+/// # Safety
+/// `image` points to `length` bytes, `fields` to `fields_length` others that
+/// nothing changes meanwhile.
+#[no_mangle]
+pub unsafe extern "C" fn rust_create(
+    image: *mut u8,
+    length: u64,
+    fields: *const u8,
+    fields_length: u64,
+    n: u64,
+) -> u64 {
+    let image = from_raw_parts_mut(image, length as usize);
+    let fields = from_raw_parts(fields, fields_length as usize);
+    packed::placed(&creating::create(image, fields, n))
+}
+
+/// # Safety
+/// `image` points to `length` bytes.
+#[no_mangle]
+pub unsafe extern "C" fn rust_delete(image: *mut u8, length: u64, slot: u64) -> u64 {
+    let image = from_raw_parts_mut(image, length as usize);
+    packed::number(&creating::delete(image, slot))
 }
