@@ -8,8 +8,8 @@
  *
  * A slice is a pointer and the count of its elements. Every call takes any bytes, of any length, and any numbers: nothing has to be tested first, and
  * nothing is kept after the call. A pointer of a slice is never NULL, not even where the count is 0, and one of galz_u32 stands at a multiple of 4. No call
- * here changes a byte that it is lent, but for 'out' of galz_read and galz_salvage and the image of galz_write, which no other slice of the call may overlap.
- * Nobody else writes to lent bytes during a call, or reads those that it may change.
+ * here changes a byte that it is lent, but for 'out' of galz_read and galz_salvage and the image of galz_write, galz_create and galz_delete, which no other
+ * slice of the call may overlap. Nobody else writes to lent bytes during a call, or reads those that it may change.
  *
  * Every call returns one number. Its top byte is the code: 0 if it was done, 1 to 127 the number of the refusal; reading and salvage have 128 for a gap
  * and 129 for the file's end, which are no refusals. What stands in the 56 bits below depends on the code and the call; the functions at the end take it
@@ -30,8 +30,8 @@ typedef unsigned long long galz_u64;
 typedef char galz_u32_has_4_bytes[sizeof(galz_u32) == 4 ? 1 : -1];
 typedef char galz_u64_has_8_bytes[sizeof(galz_u64) == 8 ? 1 : -1];
 
-/* sizes that the rules fix: a name, a label, the shortest and the longest image that can be accepted */
-enum { GALZ_NAME = 17, GALZ_LABEL = 128, GALZ_SHORTEST = 1548, GALZ_LONGEST = 5283408 };
+/* sizes that the rules fix: a name, a label, the fields that a new label is made from, the shortest and the longest image that can be accepted */
+enum { GALZ_NAME = 17, GALZ_LABEL = 128, GALZ_FIELDS = 29, GALZ_SHORTEST = 1548, GALZ_LONGEST = 5283408 };
 
 /* codes that are neither 'done' nor a refusal */
 enum { GALZ_GAP = 128, GALZ_END = 129 };
@@ -111,6 +111,39 @@ galz_u64 galz_write(galz_u8 *image, galz_u64 image_length, galz_u64 slot, const 
 		    galz_u64 count);
 
 /*
+ * Making a file without records, of n physical records in a row. 'fields' is GALZ_FIELDS bytes, characters as they will stand in the label, one field right
+ * behind the other; nothing is padded, trimmed or turned into capitals:
+ *
+ *	bytes    positions   field
+ *	 0-16     6-22       the name, spaces behind it
+ *	17-21    23-27       the block length B, five digits
+ *	22       40          the record format: space or F, V, S
+ *	23       44          the level: space, 1 or 2
+ *	24-27    54-57       the record length R, four digits, or spaces for R = B
+ *	28       63          the blocking: space, or B
+ *
+ * Done: the slot and the start of the extent (galz_slot, galz_start). The slot is the lowest deleted one. The extent is the lowest run of n data addresses,
+ * each the step from the one before it, that no label's extent has; what marks their sectors have is not asked, so that n may count defective records, and a
+ * file over a sector with an incorrect mark, not F, answers 17 to galz_count, galz_read and galz_write. Of the image only the slot's sector changes, its 129
+ * bytes from galz_slot_offset(slot) - 1 on: the kind is now 0, and the label has HDR1, the fields given, start and end, the start as its data end too, and
+ * spaces in all other positions.
+ *
+ * Refused, in this order: 1 to 12 of the volume; 10 of the label to be made, whose first place is 0, no slot's number, and whose second is the lowest position
+ * at fault: 6 (for fields of another length too), 23, 35 (n is 0), 40, 44 (any level but space, 1 and 2), 54 or 63; 12, a file has that name, with its slot;
+ * 28; 29. A 12 of the name is told from one of the volume by galz_judge, which then is done. A refusal has changed no byte.
+ */
+galz_u64 galz_create(galz_u8 *image, galz_u64 image_length, const galz_u8 *fields, galz_u64 fields_length, galz_u64 n);
+
+/*
+ * Dropping the file in a slot, whatever its content, access, dates and damage. Done: how many physical records are free again (galz_number). Of the image two
+ * bytes change, in the slot's sector, which begins at galz_slot_offset(slot) - 1: its kind is now 16, the incorrect mark, and its label's first byte D. The
+ * label's other bytes stay, and so does every record of the extent.
+ *
+ * Refused, in this order: 1 to 14, 24. A refusal has changed no byte.
+ */
+galz_u64 galz_delete(galz_u8 *image, galz_u64 image_length, galz_u64 slot);
+
+/*
  * The refusals, with what galz_first gives (and galz_second, for 10 and 21). A place that is not named is 0.
  *
  *    1  the image is below 903 bytes
@@ -122,9 +155,9 @@ galz_u64 galz_write(galz_u8 *image, galz_u64 image_length, galz_u64 slot, const 
  *    7  a rule of ERMAP is broken                                   the position
  *    8  a slot check-failed, or an incorrect mark with F            the slot
  *    9  a slot is neither label nor deleted                         the slot
- *   10  a rule of HDR1 is broken                                    the slot; second, the position
+ *   10  a rule of HDR1 is broken                                    the slot (galz_create: 0, the label to be made); second, the position
  *   11  an extent shares a record with a lower slot's               the lowest such slot
- *   12  a name of a lower slot                                      the lowest such slot
+ *   12  a name of a lower slot                                      the lowest such slot (galz_create: the slot that has the name given)
  *   13  no label in that slot or of that name
  *   14  another level than space, 1, 2                              the slot
  *   15  HDR1 42 is not space                                        the slot
@@ -140,6 +173,8 @@ galz_u64 galz_write(galz_u8 *image, galz_u64 image_length, galz_u64 slot, const 
  *   25  the lengths do not sum to the bytes of 'bodies'
  *   26  a length that the label does not allow                      the first such record, from 0
  *   27  more blocks needed than the extent holds                    the blocks needed; 2^32-1 if they are more than that
+ *   28  no slot is deleted
+ *   29  no n free records in a row
  *
  * 26: in F a length that is not R; in V one that is over R once 4 is added to it; in S one over R, unless R is 0000, and any but 0 where B is 5.
  */
@@ -187,11 +222,15 @@ static inline unsigned int galz_defect_2(galz_u64 answer) { return (unsigned int
 static inline unsigned int galz_slots(galz_u64 answer) { return galz_index_sectors(answer) * galz_sides(answer) - 7; }
 static inline galz_u64 galz_slot_offset(galz_u64 slot) { return (slot + 6) * 129 + 1; }
 
-/* galz_find, done. Bits 24-55 the slot, from 1; bits 0-23 where the label begins in the image, in bytes from 0 */
+/*
+ * galz_find and galz_create, done. Bits 24-55 the slot, from 1. Bits 0-23, of galz_find: where the label begins in the image, in bytes from 0; of galz_create:
+ * the start of the extent as the number of its five digits, cylinder*1000 + side*100 + sector. The end stands in the label, positions 35-39.
+ */
 static inline galz_u64 galz_slot(galz_u64 answer) { return galz_bits(answer, 24, 32); }
 static inline galz_u64 galz_offset(galz_u64 answer) { return galz_bits(answer, 0, 24); }
+static inline galz_u64 galz_start(galz_u64 answer) { return galz_bits(answer, 0, 24); }
 
-/* galz_count, galz_free, galz_write, done. Bits 0-55 the number */
+/* galz_count, galz_free, galz_write, galz_delete, done. Bits 0-55 the number */
 static inline galz_u64 galz_number(galz_u64 answer) { return galz_bits(answer, 0, 56); }
 
 /* galz_read, galz_salvage: whether the answer is a gap (of galz_salvage alone), or End */

@@ -1,10 +1,11 @@
 /*
- * A first client of the library: it lists a volume, reads a file record by record, writes one and salvages one.
+ * A first client of the library: it lists a volume, reads a file record by record, writes one and salvages one; then it makes one and drops it again.
  *
  *	client samples/demo.img LOG
  *
- * The file is one of format V, blocked, whose R is at least 94, on a volume without defective cylinders. The image stays as it is on disk: all happens in
- * memory. Each step says a line of what it did, and the program ends with 1 where an answer is not the one that it expects.
+ * The file is one of format V, blocked, whose R is at least 94, on a volume without defective cylinders that has a deleted slot and 8 free records in a row.
+ * The image stays as it is on disk: all happens in memory. Each step says a line of what it did, and the program ends with 1 where an answer is not the one
+ * that it expects.
  *
  * rt staticlib galzeranta && cc -std=c11 -O2 examples/c/client.c target/staticlib/libgalzeranta.a (x86-64).
  */
@@ -14,7 +15,7 @@
 #include <stdlib.h>
 #include <string.h>
 
-enum { RECORDS = 6, RECORD = 90, MOST = 4096 };
+enum { RECORDS = 6, RECORD = 90, MOST = 4096, ROOM = 8 };
 
 struct image {
 	galz_u8 *bytes;
@@ -137,6 +138,30 @@ static void salvage_all(struct image image, galz_u64 slot)
 	EXPECT(galz_is_end(answer) && records == RECORDS - 2 && gaps == 1);
 }
 
+/* A new file's label is made from 29 of its bytes, as they will stand there: name, B, format, level, R, blocking. It gets the lowest free records in a row. */
+static galz_u64 make(struct image image, const char *file)
+{
+	char fields[GALZ_FIELDS + 1];
+	snprintf(fields, sizeof fields, "%-17.17s" "00256" "V" "2" "0094" "B", file);
+	galz_u64 made = galz_create(image.bytes, image.length, (const galz_u8 *)fields, GALZ_FIELDS, ROOM);
+	EXPECT(galz_done(made) && galz_slot(made) == find(image, file));
+	printf("made: slot %llu, %d records from %05llu on\n", galz_slot(made), ROOM, galz_start(made));
+
+	/* the name is in use now, and the refusal says by which slot */
+	galz_u64 refused = galz_create(image.bytes, image.length, (const galz_u8 *)fields, GALZ_FIELDS, ROOM);
+	EXPECT(galz_code(refused) == 12 && galz_first(refused) == galz_slot(made));
+	return galz_slot(made);
+}
+
+/* Of a file that is dropped only the slot's sector changes: on a diskette it is the one to be written. */
+static void drop(struct image image, galz_u64 slot)
+{
+	galz_u64 freed = galz_delete(image.bytes, image.length, slot);
+	EXPECT(galz_done(freed) && galz_number(freed) == ROOM);
+	printf("dropped: %llu records free again, the sector at byte %llu changed\n", galz_number(freed), galz_slot_offset(slot) - 1);
+	EXPECT(galz_code(galz_count(image.bytes, image.length, slot)) == 13);
+}
+
 int main(int argc, char **argv)
 {
 	if (argc != 3) {
@@ -153,5 +178,8 @@ int main(int argc, char **argv)
 	galz_u64 refused = galz_read(image.bytes, image.length, slot, 1, 0, 0, room, MOST);
 	EXPECT(galz_code(refused) == 20 && galz_first(refused) == 1);
 	salvage_all(image, slot);
+	galz_u64 made = make(image, "MADE HERE");
+	write_all(image, made);
+	drop(image, made);
 	return 0;
 }

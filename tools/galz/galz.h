@@ -1,6 +1,6 @@
 /*
  * galz, the library's tool for the bench: what its parts share. main.c takes the command line apart; show.c has judge and list, take.c read, salvage and
- * extract-all, put.c write; image.c finds what stands where in an image, forms.c has the forms of records in
+ * extract-all, put.c write, make.c create and delete; image.c loads and stores images and finds what stands where in one, forms.c has the forms of records in
  * host files, refusals.c what is said of a refusal, host.c the files of the host.
  */
 #ifndef GALZ_H
@@ -22,26 +22,36 @@ struct bytes {
 
 enum form { LINES, LENGTHS, RAW };
 
+/* The fields of a label to be made, in characters as they will stand; one that was not said is empty. */
+struct draft {
+	char block_length[6], format[2], level[2], record_length[5], blocking[2];
+};
+
 /* What the command line says. What was not said is 0. */
 struct words {
 	const char *image, *file, *host, *output;
 	bool by_slot, salvage, force;
-	galz_u64 slot;
+	galz_u64 slot, records;
 	enum form form;
 	size_t record_length;
+	struct draft draft;
 };
 
-/* show.c, take.c, put.c: the commands, on an image that has been loaded */
+/* show.c, take.c, put.c, make.c: the commands, on an image that has been loaded */
 enum status judge(struct bytes *image, const struct words *words);
 enum status list(struct bytes *image, const struct words *words);
 enum status read_file(struct bytes *image, const struct words *words);
 enum status salvage_file(struct bytes *image, const struct words *words);
 enum status extract_all(struct bytes *image, const struct words *words);
 enum status write_file(struct bytes *image, const struct words *words);
+enum status create_file(struct bytes *image, const struct words *words);
+enum status delete_file(struct bytes *image, const struct words *words);
 
 /* image.c */
 /* an image of any length; of one that is longer than any volume so much that the library sees it is */
 bool load_image(struct bytes *image, const char *path);
+/* an image that was changed, in place of the old one or where the command line says */
+enum status store_image(const struct bytes *image, const struct words *words);
 /* the slot that the command line names */
 enum status find_slot(const struct bytes *image, const struct words *words, galz_u64 *slot);
 /* of an accepted image: the label in a slot, or NULL */
@@ -54,6 +64,8 @@ bool is_known(const galz_u8 *label);
 /* refusals.c */
 /* says a refusal on standard error: number, places, what is wrong */
 enum status say_refusal(galz_u64 answer);
+/* the same of creating so many records on an accepted volume that has so many free: 10 and 12 speak of the label to be made */
+enum status say_unmade(galz_u64 answer, galz_u64 records, galz_u64 vacant);
 /* whether a refusal has a second place */
 bool has_second_place(galz_u64 answer);
 

@@ -1,10 +1,24 @@
-/* Images: loading one, and what stands where in an accepted one. */
+/* Images: loading and storing one, and what stands where in an accepted one. */
 #include "galz.h"
 
 #include <string.h>
 
 /* One byte more than the longest image is enough: 1 to 4 are judged within the first 903 bytes, and to 5 any length above the longest is the same. */
 bool load_image(struct bytes *image, const char *path) { return load(image, path, GALZ_LONGEST + 1); }
+
+/* The image is changed in memory alone; the new one is a new file, put in place whole. */
+enum status store_image(const struct bytes *image, const struct words *words)
+{
+	const char *path = words->output ? words->output : words->image;
+	struct new_file file;
+	if (!new_open(&file, path, true))
+		return FAILED;
+	if (fwrite(image->at, 1, image->length, file.stream) == image->length)
+		return new_keep(&file) ? DONE : FAILED;
+	host_error(path);
+	new_drop(&file);
+	return FAILED;
+}
 
 const galz_u8 *label_in(const struct bytes *image, unsigned slot)
 {

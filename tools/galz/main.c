@@ -6,8 +6,13 @@
 
 /* which options a command takes */
 enum { OUTPUT = 1, AS = 2, SLOT = 4, RECORD_LENGTH = 8, SALVAGE = 16, FORCE = 32 };
+/* and those of a label's fields */
+enum { BLOCK_LENGTH = 64, FORMAT = 128, LEVEL = 256, LABEL_LENGTH = 512, BLOCKED = 1024, FIELDS = BLOCK_LENGTH | FORMAT | LEVEL | LABEL_LENGTH | BLOCKED };
 
-/* The commands. Operands are given by letters: i IMAGE, f FILE (which is not given with --slot), h a file or folder of the host. */
+/*
+ * The commands. Operands are given by letters: i IMAGE, c the same where it is changed, f FILE (which is not given with --slot), h a file or folder of the
+ * host, n a number of records.
+ */
 static const struct command {
 	const char *name;
 	enum status (*run)(struct bytes *, const struct words *);
@@ -28,10 +33,17 @@ static const struct command {
 	  "galz salvage [-o HOSTFILE] [--as lines|lengths|raw] IMAGE FILE\n"
 	  "galz salvage [-o HOSTFILE] [--as lines|lengths|raw] --slot N IMAGE\n"
 	  "  The records of a file that no lost block has a part of.\n" },
-	{ "write", write_file, OUTPUT | AS | SLOT | RECORD_LENGTH, "ifh",
+	{ "write", write_file, OUTPUT | AS | SLOT | RECORD_LENGTH, "cfh",
 	  "galz write [-o NEWIMAGE] [--as lines|lengths] IMAGE FILE HOSTFILE\n"
 	  "galz write [-o NEWIMAGE] --as raw --record-length N IMAGE FILE HOSTFILE\n"
 	  "  The records of HOSTFILE in place of those of FILE, or of --slot N; - is standard input.\n" },
+	{ "create", create_file, OUTPUT | FIELDS, "cfn",
+	  "galz create [-o NEWIMAGE] [--level 1|2] [--format F|V|S] [--blocked] --block-length B [--record-length R] IMAGE FILE N\n"
+	  "  A new file without records, with N physical records in a row for them: its slot, start and end.\n" },
+	{ "delete", delete_file, OUTPUT | SLOT, "cf",
+	  "galz delete [-o NEWIMAGE] IMAGE FILE\n"
+	  "galz delete [-o NEWIMAGE] --slot N IMAGE\n"
+	  "  Drops a file, for good: how many physical records are free again.\n" },
 	{ "extract-all", extract_all, AS | SALVAGE | FORCE, "ih",
 	  "galz extract-all [--as lines|lengths|raw] [--salvage] [--force] IMAGE DIR\n"
 	  "  Every file into DIR, and a line for each: slot, name, result, records, bytes, gaps, host file.\n" },
@@ -70,6 +82,20 @@ static bool take_form(const char *word, struct words *words)
 	return false;
 }
 
+/* a field of one character, among those that may be */
+static bool take_letter(const char *word, const char *letters, char field[2])
+{
+	field[0] = *word;
+	return *word && !word[1] && strchr(letters, *word);
+}
+
+/* a field of so many digits, with zeros before the number; whether it fits */
+static bool take_digits(const char *word, int digits, char *field)
+{
+	galz_u64 number;
+	return take_number(word, &number) && snprintf(field, (size_t)digits + 1, "%0*llu", digits, number) == digits;
+}
+
 /* an option's value; whether it is one */
 static bool take_value(unsigned option, const char *value, struct words *words)
 {
@@ -83,6 +109,14 @@ static bool take_value(unsigned option, const char *value, struct words *words)
 	case SLOT:
 		words->by_slot = true;
 		return take_number(value, &words->slot);
+	case BLOCK_LENGTH:
+		return take_digits(value, 5, words->draft.block_length);
+	case FORMAT:
+		return take_letter(value, "FVS", words->draft.format);
+	case LEVEL:
+		return take_letter(value, "12", words->draft.level);
+	case LABEL_LENGTH:
+		return take_digits(value, 4, words->draft.record_length);
 	default:
 		if (!take_number(value, &number) || number == 0 || number > 0xFFFFFFFF)
 			return false;
@@ -100,6 +134,11 @@ static const struct option {
 	{ "--as", AS, true },
 	{ "--slot", SLOT, true },
 	{ "--record-length", RECORD_LENGTH, true },
+	{ "--block-length", BLOCK_LENGTH, true },
+	{ "--format", FORMAT, true },
+	{ "--level", LEVEL, true },
+	{ "--record-length", LABEL_LENGTH, true },
+	{ "--blocked", BLOCKED, false },
 	{ "--salvage", SALVAGE, false },
 	{ "--force", FORCE, false },
 };
@@ -129,6 +168,8 @@ static enum status take_option(char ***at, unsigned allowed, struct words *words
 	}
 	words->salvage |= option->option == SALVAGE;
 	words->force |= option->option == FORCE;
+	if (option->option == BLOCKED)
+		words->draft.blocking[0] = 'B';
 	return DONE;
 }
 
@@ -142,12 +183,14 @@ static enum status take_operands(char **operands, int count, const char *letters
 		if (taken == count)
 			return misused("an operand is missing", NULL);
 		const char *operand = operands[taken++];
-		if (*letters == 'i')
+		if (*letters == 'i' || *letters == 'c')
 			words->image = operand;
 		else if (*letters == 'f')
 			words->file = operand;
-		else
+		else if (*letters == 'h')
 			words->host = operand;
+		else if (!take_number(operand, &words->records))
+			return misused("not a number of records", operand);
 	}
 	return taken == count ? DONE : misused("one operand too many", operands[taken]);
 }
@@ -155,10 +198,14 @@ static enum status take_operands(char **operands, int count, const char *letters
 /* What no option alone says. */
 static enum status check_words(const struct command *command, const struct words *words)
 {
-	bool writes = command->run == write_file;
+	bool changes = command->operands[0] == 'c', writes = command->run == write_file, creates = command->run == create_file;
 	if (writes && (words->form == RAW) != (words->record_length != 0))
 		return misused("--as raw and --record-length go together", NULL);
-	if (writes && !words->output && strcmp(words->image, "-") == 0)
+	if (creates && !*words->draft.block_length)
+		return misused("an option is missing", "--block-length");
+	if (creates && strlen(words->file) > GALZ_NAME)
+		return misused("a name of more than 17 bytes", words->file);
+	if (changes && !words->output && strcmp(words->image, "-") == 0)
 		return misused("an image from standard input needs -o", NULL);
 	if (writes && strcmp(words->image, "-") == 0 && strcmp(words->host, "-") == 0)
 		return misused("image and host file cannot both be standard input", NULL);
@@ -222,7 +269,7 @@ static enum status help(void)
 
 static enum status version(void)
 {
-	puts("galz 1.0 (GOST 28081-89)");
+	puts("galz 1.1 (GOST 28081-89)");
 	return DONE;
 }
 

@@ -20,25 +20,12 @@ static bool load_records(struct records *records, const struct words *words)
 	return false;
 }
 
-/* The image is changed in memory alone; the new one is a new file, put in place whole. */
-static enum status store(const struct bytes *image, const char *path)
-{
-	struct new_file file;
-	if (!new_open(&file, path, true))
-		return FAILED;
-	if (fwrite(image->at, 1, image->length, file.stream) == image->length)
-		return new_keep(&file) ? DONE : FAILED;
-	host_error(path);
-	new_drop(&file);
-	return FAILED;
-}
-
 static enum status write_records(struct bytes *image, galz_u64 slot, const struct records *records, const struct words *words)
 {
 	galz_u64 written = galz_write(image->at, image->length, slot, records->bodies, records->length, records->lengths, records->count);
 	if (galz_refused(written))
 		return say_refusal(written);
-	enum status status = store(image, words->output ? words->output : words->image);
+	enum status status = store_image(image, words);
 	if (status == DONE)
 		say("records %zu, bytes %zu, blocks %llu", records->count, records->length, galz_number(written));
 	return status;

@@ -53,6 +53,18 @@ static const struct field hdr1[] = {
 	{ 0, NULL },
 };
 
+/* the same of a label to be made, with what is asked of them; the name's characters are the a-set */
+static const struct field made[] = {
+	{ 6, "the file's name: only capitals, digits, spaces and !\"%&'()*+,-./:;<=>?_ (no small letters); at most 8 of them, 17 at level 2" },
+	{ 23, "the block length B: from 1 (V 4, S 5) to D*P, above P a multiple of P; V and S to 9999; level space to P" },
+	{ 35, "the end of the extent: n is 0" },
+	{ 40, "the record format: V and S at level 2 alone" },
+	{ 44, "the level: space, 1 or 2" },
+	{ 54, "the record length R: in F equal to B, or if blocked a divisor of B; in V from 4 to B" },
+	{ 63, "the blocking: S is blocked always, level space never" },
+	{ 0, NULL },
+};
+
 /* the refusals by number: what their places are called, what is wrong, and the fields that the last place is a position of */
 static const struct refusal {
 	const char *first, *second, *wrong;
@@ -85,6 +97,8 @@ static const struct refusal {
 	[25] = { NULL, NULL, "the lengths of the records do not sum to their bytes", NULL },
 	[26] = { "record", NULL, "the record, counted from 0, has a length that the label does not allow", NULL },
 	[27] = { "blocks needed", NULL, "more blocks are needed than the extent holds", NULL },
+	[28] = { NULL, NULL, "no deleted slot: delete a file first", NULL },
+	[29] = { NULL, NULL, "no such number of free records in a row", NULL },
 };
 
 static const struct refusal unknown = { "first place", "second place", "a refusal that this tool does not know", NULL };
@@ -106,9 +120,8 @@ static const char *field_at(const struct field *fields, galz_u64 position)
 	return NULL;
 }
 
-enum status say_refusal(galz_u64 answer)
+static enum status say_in_words(galz_u64 answer, const struct refusal *refusal)
 {
-	const struct refusal *refusal = refusal_of(answer);
 	const char *field = field_at(refusal->fields, refusal->second ? galz_second(answer) : galz_first(answer));
 	char places[100] = "";
 	if (refusal->second)
@@ -117,4 +130,27 @@ enum status say_refusal(galz_u64 answer)
 		snprintf(places, sizeof places, " (%s %llu)", refusal->first, galz_first(answer));
 	say("refused %u%s: %s%s%s", galz_code(answer), places, refusal->wrong, field ? ": " : "", field ? field : "");
 	return REFUSED;
+}
+
+enum status say_refusal(galz_u64 answer) { return say_in_words(answer, refusal_of(answer)); }
+
+enum status say_unmade(galz_u64 answer, galz_u64 records, galz_u64 vacant)
+{
+	struct refusal refusal = *refusal_of(answer);
+	char wrong[100];
+	switch (galz_code(answer)) {
+	case 10:
+		refusal.wrong = "the label to be made breaks a rule";
+		refusal.fields = made;
+		break;
+	case 12:
+		snprintf(wrong, sizeof wrong, "the name is that of the file in slot %llu", galz_first(answer));
+		refusal.wrong = wrong;
+		break;
+	case 29:
+		snprintf(wrong, sizeof wrong, "no %llu free records in a row (%llu are free in all)", records, vacant);
+		refusal.wrong = wrong;
+		break;
+	}
+	return say_in_words(answer, &refusal);
 }

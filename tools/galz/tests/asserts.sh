@@ -3,6 +3,11 @@
 work=$scratch/work
 input=/dev/null
 
+# The words that start a program with every signal as it is by default, where env has them. What starts the tests may have some ignored, which galz respects:
+# nohup HUP, a shell without job control INT of what runs in the background.
+default=()
+if env --default-signal true 2>/dev/null; then default=(env --default-signal); fi
+
 # empties the tests' folder
 fresh() { cd "$scratch" && rm -rf "$work" && mkdir "$work" && cd "$work" || exit 2; }
 

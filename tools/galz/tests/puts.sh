@@ -175,9 +175,9 @@ test_signals() {
   # records of one byte, more than a million: none of the runs comes to its end
   poke F-4900.img "$(label 1 54)" 0001
   for signal in TERM INT HUP; do
-    # of a shell without job control a program in the background has INT ignored, which galz respects; so the test asks for it
+    # job control is for where env cannot set signals
     set -m
-    "${front[@]}" "$folder/galz" read --slot 1 -o out F-4900.img 2>/dev/null &
+    "${default[@]}" "${front[@]}" "$folder/galz" read --slot 1 -o out F-4900.img 2>/dev/null &
     local run=$! turn
     set +m
     for turn in $(seq 1 200); do
@@ -201,7 +201,7 @@ test_permissions() {
   echo NEW >list
   local other=()
   [ "$(id -u)" -ne 0 ] || other=(setpriv --reuid 65534 --regid 65534 --clear-groups)
-  mkdir open && cp demo.img open/demo.img && chmod 444 open/demo.img && chmod 777 open && chmod 755 "$scratch" .
+  mkdir open && cp demo.img open/demo.img && chmod 444 open/demo.img && chmod 777 open && chmod 755 "$scratch" . tool && chmod 644 list
   if [ ${#other[@]} -gt 0 ]; then
     chown 65534:65534 open open/demo.img
     cp -p open/demo.img owned.img
@@ -209,13 +209,19 @@ test_permissions() {
     holds 'the owner and the mode are kept' [ "$(stat -c '%u %g %a' owned.img)" = '65534 65534 444' ]
   fi
   "${other[@]}" "${front[@]}" ./tool --version >/dev/null 2>&1 || { echo 'permissions: not tested, another user cannot run programs here'; return; }
-  "${other[@]}" "${front[@]}" ./tool write open/demo.img LOG list 2>"$scratch/err"
-  holds 'a write-protected image is not replaced' [ $? -eq 2 ]
-  last='write of a protected image'
-  says 'galz: open/demo.img: Permission denied'
-  same open/demo.img demo.img
-  "${other[@]}" "${front[@]}" ./tool write -o open/new.img open/demo.img LOG list 2>/dev/null
-  holds 'but may be written elsewhere' [ $? -eq 0 ]
+  local words
+  for words in 'write open/demo.img LOG list' 'create --block-length 1 open/demo.img NEW 1' 'delete open/demo.img LOG'; do
+    # shellcheck disable=SC2086
+    "${other[@]}" "${front[@]}" ./tool $words >"$scratch/out" 2>"$scratch/err"
+    holds "$words: a write-protected image is not replaced" [ $? -eq 2 ]
+    last="galz $words"
+    prints
+    says 'galz: open/demo.img: Permission denied'
+    same open/demo.img demo.img
+    # shellcheck disable=SC2086
+    "${other[@]}" "${front[@]}" ./tool $words -o open/new.img >/dev/null 2>&1
+    holds "$words: but may be written elsewhere" [ $? -eq 0 ]
+  done
   chmod 555 open
   "${other[@]}" "${front[@]}" ./tool write -o open/newer.img open/demo.img LOG list 2>"$scratch/err"
   holds 'a folder that may not be written is an error' [ $? -eq 2 ]

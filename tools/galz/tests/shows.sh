@@ -7,19 +7,23 @@ test_client() {
   status=$? last=client
   holds "client ends with 0, is $status" [ "$status" -eq 0 ]
   says
-  holds "client lists, reads, writes and salvages" [ "$(wc -l <"$scratch/out")" -eq 22 ]
+  holds "client lists, reads, writes, salvages, makes and drops" [ "$(wc -l <"$scratch/out")" -eq 31 ]
   holds "client salvages behind the gap" grep -qx 'salvaged 3: 90 bytes, FFFFFFFFFF' "$scratch/out"
+  tail -n 9 "$scratch/out" | sed '2,8d' >"$scratch/made"
+  holds "client makes a file and drops it" cmp -s "$scratch/made" <(lines 'made: slot 2, 8 records from 04001 on' \
+    'dropped: 8 records free again, the sector at byte 1032 changed')
+  same demo.img "$top/samples/demo.img"
   "${front[@]}" "$folder/client" demo.img NONE >"$scratch/out" 2>"$scratch/err"
   holds "client without its file ends with 1" [ $? -eq 1 ]
 }
 
 test_help() {
   ends 0 --version
-  prints 'galz 1.0 (GOST 28081-89)'
+  prints 'galz 1.1 (GOST 28081-89)'
   ends 0 --help
   says
   cp "$scratch/out" "$scratch/help"
-  for command in judge list read salvage write extract-all; do
+  for command in judge list read salvage write create delete extract-all; do
     ends 0 "$command" --help
     says
     holds "the help of $command is a part of all help" [ "$(head -n 1 "$scratch/out")" = "$(grep -m 1 "^galz $command" "$scratch/help")" ]
