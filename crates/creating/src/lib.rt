@@ -45,7 +45,7 @@ fn room_in(g: Geometry, image: &[u8], n: u64) -> Planned
 }
 
 // "10 for the proposed label, with slot 0 [..], 12 for a name in use, with the slot that has it, then 28 no deleted slot, 29 no run": the first refusal, or the
-// plan.
+// plan. (Inner, for layers above: on an accepted volume.)
 pub fn plan_in(g: Geometry, image: &[u8], wanted: &[u8], n: u64) -> Planned
     requires { ⌜ judged (now image) ≡ Judged.Volume g ⌝ }
     ensures { λ r. ⌜ r ≡ planIn g (now (image .entry)) (now (wanted .entry)) n ⌝ }
@@ -61,7 +61,7 @@ pub fn plan_in(g: Geometry, image: &[u8], wanted: &[u8], n: u64) -> Planned
     room_in(g, image, n)
 }
 
-// The plan carried out: the label with its extent, and the valid mark. Answers the start.
+// The plan carried out: the label with its extent, and the valid mark. Answers the start. (Inner, for layers above: of an accepted plan.)
 pub fn carry_out(g: Geometry, image: &mut [u8], wanted: &[u8], n: u64, slot: u64, i: u64) -> Address
     requires { ⌜ Accepted g (now image) (now wanted) n slot i ⌝ }
     ensures { λ r. ⌜ (r ≡ createdStart g (now (image .entry)) n) × (now (image .exit) ≡ imageCreated g (now (image .entry)) (now (wanted .entry)) n) ⌝ }

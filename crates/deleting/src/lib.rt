@@ -19,7 +19,7 @@ ghost use Rattle.standard.specs.Creating.{deleteRefusal, imageWithout, deleted,
 ghost use Rattle.standard.specs.Files.{extentSize};
 ghost use Rattle.standard.specs.Layout.{labelAt};
 
-// "delete gives 13, 14, 24": the first of them that is given.
+// "delete gives 13, 14, 24": the first of them that is given. (Inner, for layers above: on an accepted volume.)
 pub fn plan_out(g: Geometry, image: &[u8], slot: u64) -> Checked
     requires { ⌜ judged (now image) ≡ Judged.Volume g ⌝ }
     ensures { λ r. ⌜ r ≡ deleteRefusal g (now (image .entry)) slot ⌝ }
@@ -37,7 +37,7 @@ pub fn plan_out(g: Geometry, image: &[u8], slot: u64) -> Checked
     Checked::Passed
 }
 
-// The delete carried out. Answers how many records are free again: those of the extent.
+// The delete carried out. Answers how many records are free again: those of the extent. (Inner, for layers above: where nothing is refused.)
 pub fn drop_label(g: Geometry, image: &mut [u8], slot: u64) -> u64
     requires { ⌜ (judged (now image) ≡ Judged.Volume g) × (deleteRefusal g (now image) slot ≡ Checked.Passed) ⌝ }
     ensures { λ r. ⌜ (r ≡ extentSize g (labelAt g (now (image .entry)) slot)) × (now (image .exit) ≡ imageWithout g slot (now (image .entry))) ⌝ }

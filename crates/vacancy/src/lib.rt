@@ -41,7 +41,7 @@ fn addresses(g: Geometry) -> u64
     times(times(wide(g.L), wide(g.S)), wide(g.D))
 }
 
-// The number of records in a slot's extent: 0 where it has no label, as that extent ends before it starts.
+// The number of records in a slot's extent: 0 where it has no label, as that extent ends before it starts. (Inner.)
 pub fn size_in(g: Geometry, image: &[u8], slot: u64) -> u64
     requires { ⌜ Slotted g (now image) × (1 ≤ slot) × (slot ≤ slotCount g) ⌝ }
     ensures { λ r. ⌜ (r ≡ cond (isLabel g (now (image .entry)) slot) (extentSize g (labelAt g (now (image .entry)) slot)) 0) × (r < 4294967297) ⌝ }
@@ -83,7 +83,7 @@ pub fn free(image: &[u8]) -> Counted
     Counted::Count(free_in(g, image))
 }
 
-// "the lowest deleted slot", 0 for none. Once the slots have passed 8 to 10, one that has no label is deleted.
+// "the lowest deleted slot", 0 for none. Once the slots have passed 8 to 10, one that has no label is deleted. (Inner, as is the search behind it.)
 pub fn lowest_deleted(g: Geometry, image: &[u8]) -> u64
     requires { ⌜ Slotted g (now image) ⌝ }
     ensures { λ r. ⌜ (r ≡ lowestDeleted g (now (image .entry))) × (r ≤ slotCount g) ⌝ }
