@@ -250,6 +250,3 @@ module _ (image : List ℕ) (g : Geometry) (w : List ℕ) (n : ℕ) (j : judged 
 
   pub create-free : freeRecords g t + n ≡ freeRecords g image
   create-free = ap (λ (x : ℕ). freeRecords g t + x) (sym created-size) ∙ free-fewer g image t slot ns create-edit none-before created-is-label j create-accepted
-
-  pub create-free-count : freeCount t ≡ Count (freeRecords g image - n)
-  create-free-count = free-counted t g create-accepted ∙ ap Count (omega (arith, create-free))

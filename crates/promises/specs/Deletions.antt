@@ -136,9 +136,6 @@ module _ (image : List ℕ) (g : Geometry) (slot : ℕ) (j : judged image ≡ Vo
   pub delete-free : freeRecords g t ≡ freeRecords g image + extentSize g h
   delete-free = sym (free-fewer g t image slot ns (edit-back g image t slot delete-edit) no-label (has-slot g image slot labelled .2) delete-accepted j)
 
-  pub delete-free-count : freeCount t ≡ Count (freeRecords g image + extentSize g h)
-  delete-free-count = free-counted t g delete-accepted ∙ ap Count delete-free
-
   -- "ROOM FREED BY A DELETE IS USED AGAIN": there is a deleted slot, and a run of every size up to the extent's
   pub room-again : (n : ℕ) → n ≤ extentSize g h → Free g t n (rank g (startOf h))
   unfolding extentSize

@@ -405,19 +405,3 @@ module _ (g : Geometry) (h bodies lengths : List ℕ) (r : Rules g h) (sum : tot
   -- SO THEY ARE NO MORE THAN THERE ARE RECORDS AND BYTES, and no more than there are records in F and V
   pub needed-bound : needed h bodies lengths ≤ length lengths + length bodies
   needed-bound = omega (arith, needed-counted, bound-any (formatOf h) (isBlocked h) (blockLength h) 0 0 lengths (each-fits g h r 0 lengths fits))
-
-  pub needed-bound-F : formatOf h ≡ fixed → needed h bodies lengths ≤ length lengths
-  needed-bound-F f = omega (arith, needed-counted, bound-whole (formatOf h) (rw f tt) (isBlocked h) (blockLength h) 0 0 lengths)
-
-  pub needed-bound-V : formatOf h ≡ variable → needed h bodies lengths ≤ length lengths
-  needed-bound-V f = omega (arith, needed-counted, bound-whole (formatOf h) (rw f tt) (isBlocked h) (blockLength h) 0 0 lengths)
-
--- ---- THE SAME OF A FILE OF AN ACCEPTED IMAGE that refusals 13 and 14 pass
-module _ (image : List ℕ) (g : Geometry) (slot : ℕ) (bodies lengths : List ℕ) (j : judged image ≡ Volume g) (l : hasLabel g image slot ≡ true)
-    (kn : knownLevel (labelAt g image slot) ≡ true) (sum : total lengths ≡ length bodies) (fits : lengthsFrom (labelAt g image slot) 0 lengths ≡ Passed) where
-  pub file-needed-counted : needed (labelAt g image slot) bodies lengths
-      ≡ neededFrom (formatOf (labelAt g image slot)) (isBlocked (labelAt g image slot)) (blockLength (labelAt g image slot)) 0 0 lengths
-  file-needed-counted = needed-counted g (labelAt g image slot) bodies lengths (label-rules image g slot j l kn) sum fits
-
-  pub file-needed-bound : needed (labelAt g image slot) bodies lengths ≤ length lengths + length bodies
-  file-needed-bound = needed-bound g (labelAt g image slot) bodies lengths (label-rules image g slot j l kn) sum fits

@@ -182,32 +182,6 @@ module _ (image : List ℕ) (g : Geometry) (slot : ℕ) (bodies lengths : List �
   abbrev blocks : ℕ
   blocks = needed theLabel bodies lengths
 
-  -- the data end field: of an address that is
-  abbrev EndField : Address → Type 0
-  EndField e = field (labelAt g after slot) 75 79 ≡ fiveBytes e
-
-  -- the start, for 0 blocks
-  pub written-none : blocks ≡ 0 → EndField (startOf theLabel)
-  written-none e =
-      end-set image g slot bodies lengths j w ∙ ap (λ (n : ℕ). fiveBytes (dataEndAfter g image theLabel n)) e ∙ ap fiveBytes (end-of-none g image theLabel)
-
-  -- the first good record of the next block, if a whole one is left
-  pub written-some : 0 < blocks → blocks < blocksHeld g image theLabel
-      → EndField (getD (goodRecords g image theLabel) (blocks * recordsToBlock g theLabel) firstAddress)
-      × (blocks * recordsToBlock g theLabel < length (goodRecords g image theLabel))
-  written-some p l = (
-    end-set image g slot bodies lengths j w ∙ ap fiveBytes (end-of-some g image theLabel blocks p l),
-    record-there g image theLabel blocks (records-some image g slot bodies lengths j w) l,
-  )
-
-  -- else the step past the extent's end: where the blocks are all that the extent holds
-  pub written-all : 0 < blocks → blocks ≡ blocksHeld g image theLabel → EndField (stepped g (endOf theLabel))
-  written-all p e = end-set image g slot bodies lengths j w ∙ ap fiveBytes (end-of-all g image theLabel blocks p (omega (arith, e)))
-
-  -- never the start, where there are blocks
-  pub written-behind : 0 < blocks → rank g (startOf theLabel) < rank g (dataEndAfter g image theLabel blocks)
-  written-behind p = end-behind g image theLabel (label-range image g slot bodies lengths j w) (records-some image g slot bodies lengths j w) blocks p
-
   -- WHAT STANDS IN THE i-TH RECORD OF BLOCK b: the valid mark, its P bytes of the content, and 00
   pub written-sector : (b i : ℕ) → b < blocks → i < recordsToBlock g theLabel
       → let a = getD (goodRecords g image theLabel) (b * recordsToBlock g theLabel + i) firstAddress in

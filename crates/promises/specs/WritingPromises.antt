@@ -160,13 +160,6 @@ module _ (image : List ℕ) (g : Geometry) (slot : ℕ) (bodies lengths : List �
       ap (λ (s : List ℕ). labelAt g s other) after-t
       ∙ sym (same-label g image t (numbers-of image g j) other m (other-sector image g slot bodies lengths j w other m ne))
 
-  pub opening-stays : (other : ℕ) → (other ≡ slot → ⊥) → openRefusal g after other ≡ openRefusal g image other
-  opening-stays other ne = sym (open-same g image after other room (same-other other ne))
-
-  pub files-stay : (other : ℕ) → (other ≡ slot → ⊥) → hasLabel g image other ≡ true
-      → fileIn g after (labelAt g after other) ≡ fileIn g image (labelAt g image other)
-  files-stay other ne h = sym (file-same g image after other room (same-other other ne) h)
-
   pub readings-stay : (other : ℕ) → (other ≡ slot → ⊥) → (m : Mode) (pl : Place) (size : ℕ) → reply m after other pl size ≡ reply m image other pl size
   readings-stay other ne m pl size = sym (reply-same g image after other room (same-other other ne) j accepted-still m pl size)
 
