@@ -11,7 +11,7 @@ ghost use mathlib.Core.Path.{_≡_};
 ghost use mathlib.Core.Bool.{_&&_, _||_, not};
 ghost use mathlib.Core.List.{[], _∷_};
 ghost use Prim.Native.Nat.{_+_, _-_, _*_, _%_, _<_, _≤_};
-ghost use lib.ListN.{length};
+ghost use lib.ListN.{length, getD};
 ghost use lib.Dec.{eqb};
 ghost use Rattle.standard.specs.Characters.{between, oneOf, same, every, aSet, isHex, digits, digitValue, number, hexValue, hex, spacesOrNumber};
 ghost use Rattle.standard.specs.Addresses.{addressIn, legal, pastLast, rank, isAddress};
@@ -173,6 +173,7 @@ pub fn spaces_or_number(low: u64, high: u64, f: &[u8]) -> bool
 }
 
 // Numbers of fields that were judged before, or are judged elsewhere. A field of any bytes spells one; the bounds hold of any bytes.
+// A number, and one digit behind it.
 fn one_more(n: u64, c: u64) -> u64
     requires { ⌜ (n < 300000) × (c < 256) ⌝ }
     ensures { λ r. ⌜ (r ≡ n * 10 + digitValue c) × (r < n * 10 + 256) ⌝ }
@@ -180,33 +181,34 @@ fn one_more(n: u64, c: u64) -> u64
     n * 10 + digit(c)
 }
 
+// And two: those of a field from i on.
+fn two_more(n: u64, f: &[u8], i: usize) -> u64
+    requires { ⌜ (n < 3000) × (i < 4) ⌝ }
+    ensures { λ r. ⌜ (r ≡ (n * 10 + digitValue (getD (now (f .entry)) i 0)) * 10 + digitValue (getD (now (f .entry)) (i + 1) 0)) × (r < n * 100 + 2816) ⌝ }
+{
+    let tens = one_more(n, byte_at(f, i));
+    one_more(tens, byte_at(f, i + 1))
+}
+
 pub fn number_2(f: &[u8]) -> u64
     requires { ⌜ length (now f) ≡ 2 ⌝ }
     ensures { λ r. ⌜ (r ≡ number (now (f .entry))) × (r < 3000) ⌝ }
 {
-    let a = digit(byte_at(f, 0));
-    one_more(a, byte_at(f, 1))
+    two_more(0, f, 0)
 }
 
 pub fn number_4(f: &[u8]) -> u64
     requires { ⌜ length (now f) ≡ 4 ⌝ }
     ensures { λ r. ⌜ (r ≡ number (now (f .entry))) × (r < 300000) ⌝ }
 {
-    let a = digit(byte_at(f, 0));
-    let b = one_more(a, byte_at(f, 1));
-    let c = one_more(b, byte_at(f, 2));
-    one_more(c, byte_at(f, 3))
+    two_more(two_more(0, f, 0), f, 2)
 }
 
 pub fn number_5(f: &[u8]) -> u64
     requires { ⌜ length (now f) ≡ 5 ⌝ }
     ensures { λ r. ⌜ (r ≡ number (now (f .entry))) × (r < 10000000) ⌝ }
 {
-    let a = digit(byte_at(f, 0));
-    let b = one_more(a, byte_at(f, 1));
-    let c = one_more(b, byte_at(f, 2));
-    let d = one_more(c, byte_at(f, 3));
-    one_more(d, byte_at(f, 4))
+    one_more(two_more(two_more(0, f, 0), f, 2), byte_at(f, 4))
 }
 
 fn hex_digit(c: u64) -> u64
