@@ -1,14 +1,14 @@
 -- The control words: "four digits".
 -- Assumes nothing.
-use Prim.Native.Nat.{ℕ, _+_, _/_, _<_, _≤_}
+use Prim.Native.Nat.{ℕ, _+_, _-_, _/_, _<_, _≤_}
 use mathlib.Core.Path.{_≡_, sym, ap, _∙_}
-use mathlib.Core.List.{List, [], _∷_, _++_}
-use lib.ListN.{length, set}
+use mathlib.Core.List.{List, [], _∷_, _++_, append-nil}
+use lib.ListN.{length, getD, take, drop, set, length-drop, drop-of-length-le}
+use lib.Seq.{drop-cons, take-all}
 use native.Mathlib.Omega.{arith}
 use Rattle.standard.specs.Characters.{digitOf, padded}
 use Rattle.standard.specs.Writing.{splice}
 use Rattle.promises.specs.Splices.{splice-length}
-use Rattle.promises.specs.Digits.{padded-length}
 use Rattle.promises.specs.StoreLaws.{splice-join}
 use Rattle.filling.specs.Poured.{packed, wordS}
 use Rattle.filling.proofs.RunLaws.{set-splice, splice-more}
@@ -23,36 +23,45 @@ padded-four n =
     ∙ ap (λ (m : ℕ). digitOf (n / 1000) ∷ digitOf m ∷ digitOf (n / 10) ∷ digitOf n ∷ []) hundred
     ∙ ap (λ (m : ℕ). digitOf (n / 1000) ∷ digitOf (n / 100) ∷ digitOf (n / 10) ∷ digitOf m ∷ []) one
 
-digits-are : (n a b c d : ℕ) → a ≡ digitOf (n / 1000) → b ≡ digitOf (n / 100) → c ≡ digitOf (n / 10) → d ≡ digitOf (n / 1) → (a ∷ b ∷ c ∷ d ∷ []) ≡ padded 4 n
-digits-are n a b c d ea eb ec ed = rw (ea, eb, ec, ed) (sym (padded-four n))
-
-pub word-V : (n a b c d : ℕ) → a ≡ digitOf (n / 1000) → b ≡ digitOf (n / 100) → c ≡ digitOf (n / 10) → d ≡ digitOf (n / 1) → packed (a ∷ b ∷ c ∷ d ∷ []) 0 4 0 ≡ padded 4 n
-word-V n a b c d ea eb ec ed = digits-are n a b c d ea eb ec ed
-
-pub word-S : (k n e a b c d : ℕ) → e ≡ 48 + k → a ≡ digitOf (n / 1000) → b ≡ digitOf (n / 100) → c ≡ digitOf (n / 10) → d ≡ digitOf (n / 1)
-    → packed (e ∷ a ∷ b ∷ c ∷ d ∷ []) 0 5 0 ≡ wordS k n
-word-S k n e a b c d ee ea eb ec ed =
-    ap (λ (t : List ℕ). e ∷ t) (digits-are n a b c d ea eb ec ed) ∙ ap (λ (x : ℕ). x ∷ padded 4 n) ee
+pub word-is : (k n a b c d : ℕ) → a ≡ digitOf (n / 1000) → b ≡ digitOf (n / 100) → c ≡ digitOf (n / 10) → d ≡ digitOf (n / 1)
+    → ((48 + k) ∷ a ∷ b ∷ c ∷ d ∷ []) ≡ wordS k n
+word-is k n a b c d ea eb ec ed = rw (ea, eb, ec, ed) (ap (λ (t : List ℕ). (48 + k) ∷ t) (sym (padded-four n)))
 
 -- one byte stored behind others
 store-behind : (o : ℕ) (x : List ℕ) (y : ℕ) (s t : List ℕ) → o + length x < length s → t ≡ splice o x s → set t (o + length x) y ≡ splice o (x ++ (y ∷ [])) s
 store-behind o x y s t h e =
     ap (λ (u : List ℕ). set u (o + length x) y) e ∙ splice-more o x y s h
 
--- four digits stored in turn
-pub digits-laid : (n o a b c d : ℕ) (s : List ℕ) → o + 4 ≤ length s → a ≡ digitOf (n / 1000) → b ≡ digitOf (n / 100) → c ≡ digitOf (n / 10) → d ≡ digitOf (n / 1)
-    → set (set (set (set s o a) (o + 1) b) (o + 2) c) (o + 3) d ≡ splice o (padded 4 n) s
-digits-laid n o a b c d s h ea eb ec ed =
-    store-behind o (a ∷ b ∷ c ∷ []) d s _ (omega arith)
-    (store-behind o (a ∷ b ∷ []) c s _ (omega arith) (store-behind o (a ∷ []) b s _ (omega arith) (set-splice o a s (omega arith))))
-    ∙ ap (λ (t : List ℕ). splice o t s) (digits-are n a b c d ea eb ec ed)
+-- the word from byte `from` on, stored in turn, or put as data
+module _ (w : List ℕ) (five : length w ≡ 5) where
+  last-four : drop 1 w ≡ (getD w 1 0 ∷ getD w 2 0 ∷ getD w 3 0 ∷ getD w 4 0 ∷ [])
+  last-four =
+      rw (drop-cons w 1 0 (omega arith), drop-cons w 2 0 (omega arith), drop-cons w 3 0 (omega arith), drop-cons w 4 0 (omega arith), drop-of-length-le w {i = 5} (omega arith))
 
--- the role's digit stored, and four behind it
-pub segment-laid : (k n o : ℕ) (s t : List ℕ) → o + 5 ≤ length s → t ≡ splice (o + 1) (padded 4 n) (set s o (48 + k)) → t ≡ splice o (wordS k n) s
-segment-laid k n o s t h e =
-    e ∙ ap (splice (o + 1) (padded 4 n)) (set-splice o (48 + k) s (omega arith)) ∙ splice-join o ((48 + k) ∷ []) (padded 4 n) s (omega arith)
+  pub four-laid : (o : ℕ) (s : List ℕ) → o + 4 ≤ length s
+      → set (set (set (set s o (getD w 1 0)) (o + 1) (getD w 2 0)) (o + 2) (getD w 3 0)) (o + 3) (getD w 4 0) ≡ splice o (drop 1 w) s
+  four-laid o s h =
+      let a = getD w 1 0 in
+      let b = getD w 2 0 in
+      let c = getD w 3 0 in
+      store-behind o (a ∷ b ∷ c ∷ []) (getD w 4 0) s _ (omega arith)
+      (store-behind o (a ∷ b ∷ []) c s _ (omega arith) (store-behind o (a ∷ []) b s _ (omega arith) (set-splice o a s (omega arith))))
+      ∙ ap (λ (t : List ℕ). splice o t s) (sym last-four)
 
-pub segment-length : (k n o : ℕ) (s t : List ℕ) → o + 5 ≤ length s → t ≡ splice (o + 1) (padded 4 n) (set s o (48 + k)) → length t ≡ length s
-segment-length k n o s t h e =
-    let l = padded-length 4 n in
-    ap length (segment-laid k n o s t h e) ∙ splice-length o (wordS k n) s (omega arith)
+  -- the first byte stored, and four behind it
+  pub word-laid : (from o : ℕ) (s t : List ℕ) → from ≡ 0 → o + 5 ≤ length s → t ≡ splice (o + 1) (drop 1 w) (set s o (getD w 0 0)) → t ≡ splice o (drop from w) s
+  word-laid from o s t z h e =
+      e
+      ∙ ap (splice (o + 1) (drop 1 w)) (set-splice o (getD w 0 0) s (omega arith))
+      ∙ splice-join o (getD w 0 0 ∷ []) (drop 1 w) s (omega arith)
+      ∙ ap (λ (x : List ℕ). splice o x s) (sym (drop-cons w 0 0 (omega arith)))
+      ∙ ap (λ (k : ℕ). splice o (drop k w) s) (sym z)
+
+  pub from-length : (from : ℕ) → length (drop from w) ≡ 5 - from
+  from-length from = length-drop from w ∙ ap (λ (n : ℕ). n - from) five
+
+  pub word-length : (from o : ℕ) (s t : List ℕ) → from ≡ 0 → o + 5 ≤ length s → t ≡ splice (o + 1) (drop 1 w) (set s o (getD w 0 0)) → length t ≡ length s
+  word-length from o s t z h e = ap length (word-laid from o s t z h e) ∙ splice-length o (drop from w) s (omega (arith, from-length from))
+
+  pub word-packed : (from : ℕ) → packed w from (5 - from) 0 ≡ drop from w
+  word-packed from = append-nil (take (5 - from) (drop from w)) ∙ take-all (5 - from) (drop from w) (omega (arith, from-length from))

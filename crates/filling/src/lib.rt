@@ -211,93 +211,80 @@ fn digit_at(n: u64, worth: u64) -> u8
     (48 + n / worth % 10) as u8
 }
 
-// Four digits, laid into a record's body from byte i on.
-fn lay_digits(body: &mut [u8], i: usize, size: u64)
-    requires { ⌜ i + 4 ≤ length (now body) ⌝ }
-    ensures { λ r. ⌜ now (body .exit) ≡ splice i (padded 4 size) (now (body .entry)) ⌝ }
+// A control word: that of S, "`0`-`3`, four digits". That of V, "four digits", is the same from its second byte on.
+fn word_of(digit: u64, size: u64) -> [u8; 5]
+    requires { ⌜ digit < 4 ⌝ }
+    ensures { λ r. ⌜ r ≡ wordS digit size ⌝ }
 {
-    let thousands = digit_at(size, 1000);
-    let hundreds = digit_at(size, 100);
-    let tens = digit_at(size, 10);
-    let ones = digit_at(size, 1);
-    body[i] = thousands;
-    body[i + 1] = hundreds;
-    body[i + 2] = tens;
-    body[i + 3] = ones;
-}
-
-// The role's digit and four digits, laid into a record's body from byte i on.
-fn lay_segment(body: &mut [u8], i: usize, digit: u64, size: u64)
-    requires { ⌜ (i + 5 ≤ length (now body)) × (digit < 4) ⌝ }
-    ensures { λ r. ⌜ now (body .exit) ≡ splice i (wordS digit size) (now (body .entry)) ⌝ }
-{
-    body[i] = (48 + digit) as u8;
-    lay_digits(body, i + 1, size);
-}
-
-// A control word of V that has room in the record: its body is lent, as to the filler. Most words have room, and these need no run of bytes.
-fn length_in(g: Geometry, image: &mut [u8], p: Pen, size: u64) -> Pen
-    requires { ⌜ (Placed g (now image) p) × (p .i + 4 ≤ g .P) ⌝ }
-    ensures { λ r. ⌜ Lays g (now (image .entry)) p (padded 4 size) (now (image .exit)) r ⌝ }
-{
-    let c = p.c;
-    let i = p.i;
-    let at = p.at;
-    let a = (at - i) as usize;
-    let e = a + wide16(g.P) as usize;
-    lay_digits(&mut image[a..e], i as usize, size);
-    Pen {
-        c: c,
-        i: i + 4,
-        at: at + 4,
-    }
-}
-
-// A control word of S that has room in the record.
-fn segment_in(g: Geometry, image: &mut [u8], p: Pen, digit: u64, size: u64) -> Pen
-    requires { ⌜ (Placed g (now image) p) × (p .i + 5 ≤ g .P) × (digit < 4) ⌝ }
-    ensures { λ r. ⌜ Lays g (now (image .entry)) p (wordS digit size) (now (image .exit)) r ⌝ }
-{
-    let c = p.c;
-    let i = p.i;
-    let at = p.at;
-    let a = (at - i) as usize;
-    let e = a + wide16(g.P) as usize;
-    lay_segment(&mut image[a..e], i as usize, digit, size);
-    Pen {
-        c: c,
-        i: i + 5,
-        at: at + 5,
-    }
-}
-
-// A control word of V that goes on over records.
-fn length_over(g: Geometry, image: &mut [u8], p: Pen, size: u64) -> Pen
-    requires { ⌜ Placed g (now image) p ⌝ }
-    ensures { λ r. ⌜ Lays g (now (image .entry)) p (padded 4 size) (now (image .exit)) r ⌝ }
-{
-    let word = [
-        digit_at(size, 1000),
-        digit_at(size, 100),
-        digit_at(size, 10),
-        digit_at(size, 1),
-    ];
-    put(g, image, p, &word, 0, 4, 0)
-}
-
-// A control word of S that goes on over records.
-fn segment_over(g: Geometry, image: &mut [u8], p: Pen, digit: u64, size: u64) -> Pen
-    requires { ⌜ (Placed g (now image) p) × (digit < 4) ⌝ }
-    ensures { λ r. ⌜ Lays g (now (image .entry)) p (wordS digit size) (now (image .exit)) r ⌝ }
-{
-    let word = [
+    [
         (48 + digit) as u8,
         digit_at(size, 1000),
         digit_at(size, 100),
         digit_at(size, 10),
         digit_at(size, 1),
-    ];
-    put(g, image, p, &word, 0, 5, 0)
+    ]
+}
+
+// The last four bytes of a word, laid into a record's body from byte i on.
+fn lay_four(body: &mut [u8], i: usize, word: [u8; 5])
+    requires { ⌜ i + 4 ≤ length (now body) ⌝ }
+    ensures { λ r. ⌜ now (body .exit) ≡ splice i (drop 1 word) (now (body .entry)) ⌝ }
+{
+    body[i] = word[1];
+    body[i + 1] = word[2];
+    body[i + 2] = word[3];
+    body[i + 3] = word[4];
+}
+
+// The word from its first byte or from its second on.
+fn lay_word(body: &mut [u8], i: usize, word: [u8; 5], from: u64)
+    requires { ⌜ (from ≤ 1) × (i + 5 ≤ length (now body) + from) ⌝ }
+    ensures { λ r. ⌜ now (body .exit) ≡ splice i (drop from word) (now (body .entry)) ⌝ }
+{
+    if from == 1 {
+        lay_four(body, i, word);
+        return;
+    }
+    body[i] = word[0];
+    lay_four(body, i + 1, word);
+}
+
+// A word that has room in the record: its body is lent, as to the filler. Most words have room, and these need no run of bytes.
+fn word_in(g: Geometry, image: &mut [u8], p: Pen, word: [u8; 5], from: u64) -> Pen
+    requires { ⌜ (Placed g (now image) p) × (from ≤ 1) × (p .i + 5 ≤ g .P + from) ⌝ }
+    ensures { λ r. ⌜ Lays g (now (image .entry)) p (drop from word) (now (image .exit)) r ⌝ }
+{
+    let c = p.c;
+    let i = p.i;
+    let at = p.at;
+    let a = (at - i) as usize;
+    let e = a + wide16(g.P) as usize;
+    lay_word(&mut image[a..e], i as usize, word, from);
+    Pen {
+        c: c,
+        i: i + 5 - from,
+        at: at + 5 - from,
+    }
+}
+
+// A word that goes on over records, as data does.
+fn word_over(g: Geometry, image: &mut [u8], p: Pen, word: [u8; 5], from: u64) -> Pen
+    requires { ⌜ (Placed g (now image) p) × (from ≤ 1) ⌝ }
+    ensures { λ r. ⌜ Lays g (now (image .entry)) p (drop from word) (now (image .exit)) r ⌝ }
+{
+    put(g, image, p, &word, from, 5 - from, 0)
+}
+
+fn put_word(g: Geometry, image: &mut [u8], p: Pen, digit: u64, size: u64, from: u64) -> Pen
+    requires { ⌜ (Placed g (now image) p) × (digit < 4) × (from ≤ 1) ⌝ }
+    ensures { λ r. ⌜ Lays g (now (image .entry)) p (drop from (wordS digit size)) (now (image .exit)) r ⌝ }
+{
+    let word = word_of(digit, size);
+    let i = p.i;
+    if i + 5 <= wide16(g.P) + from {
+        return word_in(g, image, p, word, from);
+    }
+    word_over(g, image, p, word, from)
 }
 
 // The control word of V: "four digits".
@@ -305,11 +292,7 @@ pub fn put_length(g: Geometry, image: &mut [u8], p: Pen, size: u64) -> Pen
     requires { ⌜ Placed g (now image) p ⌝ }
     ensures { λ r. ⌜ Lays g (now (image .entry)) p (padded 4 size) (now (image .exit)) r ⌝ }
 {
-    let i = p.i;
-    if i + 4 <= wide16(g.P) {
-        return length_in(g, image, p, size);
-    }
-    length_over(g, image, p, size)
+    put_word(g, image, p, 0, size, 1)
 }
 
 // The control word of S: "`0`-`3`, four digits".
@@ -317,9 +300,5 @@ pub fn put_segment(g: Geometry, image: &mut [u8], p: Pen, digit: u64, size: u64)
     requires { ⌜ (Placed g (now image) p) × (digit < 4) ⌝ }
     ensures { λ r. ⌜ Lays g (now (image .entry)) p (wordS digit size) (now (image .exit)) r ⌝ }
 {
-    let i = p.i;
-    if i + 5 <= wide16(g.P) {
-        return segment_in(g, image, p, digit, size);
-    }
-    segment_over(g, image, p, digit, size)
+    put_word(g, image, p, digit, size, 0)
 }
