@@ -30,28 +30,34 @@ module _ (clash : ℕ → ℕ → Bool) (slot : ℕ) where
   below-none h zero = refl
   below-none h (suc n) = rw (h (suc n), below-none h n)
 
--- from slot i + 1 on, m slots in all
-module _ (clash : ℕ → ℕ → Bool) (number m i : ℕ) (h : i < m) where
-  abbrev Rest : ℕ → Checked
-  Rest k = clashesFrom clash number k (i + 1 + 1)
+-- the loops over the slots: i of n are passed, and no slot of those clashes with a lower one
+pub record Passing (clash : ℕ → ℕ → Bool) (number count n i : ℕ) : Type 0 where
+  pub within : i ≤ n
+  pub rest : clashesFrom clash number count 1 ≡ clashesFrom clash number (n - i) (i + 1)
 
-  from-go : (k : ℕ) → m - i ≡ suc k → clashesFrom clash number (m - i) (i + 1)
-      ≡ cond (clashesBelow clash (i + 1) (i + 1 - 1)) (Stopped (refuse number (i + 1))) (Rest k)
+pub passing-start : (clash : ℕ → ℕ → Bool) (number count n : ℕ) → n ≡ count → Passing clash number count n 0
+passing-start clash number count n e =
+    let f : count ≡ n - 0 = omega arith in
+    record { within = omega arith; rest = ap (λ (k : ℕ). clashesFrom clash number k 1) f }
+
+module _ {clash : ℕ → ℕ → Bool} {number count n i : ℕ} (p : Passing clash number count n i) where
+  abbrev Next : Bool → Checked
+  Next t = cond t (Stopped (refuse number (i + 1))) (clashesFrom clash number (n - (i + 1)) (i + 1 + 1))
+
+  next-go : (k : ℕ) → n - i ≡ suc k
+      → clashesFrom clash number (n - i) (i + 1) ≡ cond (clashesBelow clash (i + 1) (i + 1 - 1)) (Stopped (refuse number (i + 1))) (clashesFrom clash number k (i + 1 + 1))
   unfolding clashesFrom
-  from-go k e = rw e
+  next-go k e = rw e
 
-  from-by : (t : Bool) → clashesBelow clash (i + 1) (i + 1 - 1) ≡ t → clashesFrom clash number (m - i) (i + 1) ≡ cond t (Stopped (refuse number (i + 1))) (Rest (m - (i + 1)))
-  from-by t e = from-go (m - (i + 1)) (omega arith) ∙ ap (λ (b : Bool). cond b (Stopped (refuse number (i + 1))) (Rest (m - (i + 1)))) e
+  next : i < n → (t : Bool) → clashesBelow clash (i + 1) (i + 1 - 1) ≡ t → clashesFrom clash number count 1 ≡ Next t
+  next h t e = p .rest ∙ next-go (n - (i + 1)) (omega arith) ∙ ap Next e
 
-  pub from-stop : clashesBelow clash (i + 1) (i + 1 - 1) ≡ true → clashesFrom clash number (m - i) (i + 1) ≡ Stopped (refuse number (i + 1))
-  from-stop t = from-by true t
+  pub passing-stop : i < n → clashesBelow clash (i + 1) (i + 1 - 1) ≡ true → clashesFrom clash number count 1 ≡ Stopped (refuse number (i + 1))
+  passing-stop h t = next h true t
 
-  pub from-more : clashesBelow clash (i + 1) (i + 1 - 1) ≡ false → clashesFrom clash number (m - i) (i + 1) ≡ clashesFrom clash number (m - (i + 1)) (i + 1 + 1)
-  from-more t = from-by false t
+  pub passing-more : i < n → clashesBelow clash (i + 1) (i + 1 - 1) ≡ false → Passing clash number count n (i + 1)
+  passing-more h t = record { within = omega arith; rest = next h false t }
 
-pub from-end : (clash : ℕ → ℕ → Bool) (number m i : ℕ) → m ≤ i → clashesFrom clash number (m - i) (i + 1) ≡ Passed
-unfolding clashesFrom
-from-end clash number m i h = let e : m - i ≡ 0 = omega arith in rw e
-
-pub from-start : (clash : ℕ → ℕ → Bool) (number m n : ℕ) → n ≡ m → clashesFrom clash number m 1 ≡ clashesFrom clash number (n - 0) (0 + 1)
-from-start clash number m n e = let f : m ≡ n - 0 = omega arith in ap (λ (k : ℕ). clashesFrom clash number k 1) f
+  pub passing-end : n ≤ i → clashesFrom clash number count 1 ≡ Passed
+  unfolding clashesFrom
+  passing-end h = let e : n - i ≡ 0 = omega arith in p .rest ∙ rw e

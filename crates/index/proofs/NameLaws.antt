@@ -15,7 +15,7 @@ use Rattle.standard.specs.Judgement.{sameName, namesake, clashesBelow}
 use Rattle.standard.specs.declared.Geometry.{Geometry}
 use Rattle.promises.specs.Basics.{by-test, and-r}
 use Rattle.promises.specs.FindingLaws.{same-equal}
-use Rattle.index.specs.Names.{eightFrom, keyOf, keyIn, Keyed}
+use Rattle.index.specs.Names.{twoFrom, fourFrom, eightFrom, keyOf, keyIn, Keyed}
 use Rattle.index.proofs.ClashLaws.{below-none}
 use Rattle.index.proofs.ExtentLaws.{row-more}
 
@@ -23,29 +23,18 @@ use Rattle.index.proofs.ExtentLaws.{row-more}
 byte-at : (h : List ℕ) (n m : ℕ) → n < 17 → 5 + n ≡ m → getD (nameOf h) n 0 ≡ getD h m 0
 byte-at h n m l e = getD-take 17 (drop 5 h) n 0 l ∙ getD-drop 5 h n 0 ∙ ap (λ (x : ℕ). getD h x 0) e
 
-pub eight-is : (s : List ℕ) (i a b c d e f x y : ℕ)
-    → a ≡ getD s i 0 → b ≡ getD s (i + 1) 0 → c ≡ getD s (i + 2) 0 → d ≡ getD s (i + 3) 0
-    → e ≡ getD s (i + 4) 0 → f ≡ getD s (i + 5) 0 → x ≡ getD s (i + 6) 0 → y ≡ getD s (i + 7) 0
-    → a + b * 256 + c * 65536 + d * 16777216 + e * 4294967296 + f * 1099511627776 + x * 281474976710656 + y * 72057594037927936 ≡ eightFrom s i
-unfolding eightFrom
-eight-is s i a b c d e f x y ea eb ec ed ee ef ex ey = simp (ea, eb, ec, ed, ee, ef, ex, ey)
+two-in : (h : List ℕ) (n m : ℕ) → n < 16 → 5 + n ≡ m → twoFrom (nameOf h) n ≡ twoFrom h m
+two-in h n m l e = omega (arith, byte-at h n m (omega arith) e, byte-at h (n + 1) (m + 1) (omega arith) (omega arith))
 
-eight-in : (h : List ℕ) (i : ℕ) → i < 10 → eightFrom (nameOf h) i ≡ eightFrom h (5 + i)
-unfolding eightFrom
-eight-in h i l =
-    eight-is h (5 + i) _ _ _ _ _ _ _ _
-    (byte-at h i (5 + i) (omega arith) (omega arith))
-    (byte-at h (i + 1) (5 + i + 1) (omega arith) (omega arith))
-    (byte-at h (i + 2) (5 + i + 2) (omega arith) (omega arith))
-    (byte-at h (i + 3) (5 + i + 3) (omega arith) (omega arith))
-    (byte-at h (i + 4) (5 + i + 4) (omega arith) (omega arith))
-    (byte-at h (i + 5) (5 + i + 5) (omega arith) (omega arith))
-    (byte-at h (i + 6) (5 + i + 6) (omega arith) (omega arith))
-    (byte-at h (i + 7) (5 + i + 7) (omega arith) (omega arith))
+four-in : (h : List ℕ) (n m : ℕ) → n < 14 → 5 + n ≡ m → fourFrom (nameOf h) n ≡ fourFrom h m
+four-in h n m l e = omega (arith, two-in h n m (omega arith) e, two-in h (n + 2) (m + 2) (omega arith) (omega arith))
+
+eight-in : (h : List ℕ) (n m : ℕ) → n < 10 → 5 + n ≡ m → eightFrom (nameOf h) n ≡ eightFrom h m
+eight-in h n m l e = omega (arith, four-in h n m (omega arith) e, four-in h (n + 4) (m + 4) (omega arith) (omega arith))
 
 pub key-is : (h : List ℕ) (a b r : ℕ) → a ≡ eightFrom h 5 → b ≡ eightFrom h 14 → r ≡ (a + b) % 2 ^ 64 → r ≡ keyOf (nameOf h)
 unfolding keyOf
-key-is h a b r p q e = e ∙ ap (λ (n : ℕ). n % 2 ^ 64) (rw (p, q, eight-in h 0 (omega arith), eight-in h 9 (omega arith)))
+key-is h a b r p q e = e ∙ ap (λ (n : ℕ). n % 2 ^ 64) (omega (arith, p, q, eight-in h 0 5 (omega arith) (omega arith), eight-in h 9 14 (omega arith) (omega arith)))
 
 -- two labels, two levels, and whether the names are the same
 regroup : (a b c d e : Bool) → ((a && c) && (b && d) && e) ≡ (a && b && (c && d && e))

@@ -8,17 +8,15 @@ use Rattle.standard.specs.Layout.{labelAt}
 use Rattle.standard.specs.Labels.{nameOf}
 use Rattle.standard.specs.declared.Geometry.{Geometry}
 
--- eight bytes as one number
-unfoldable pub eightFrom : List ℕ → ℕ → ℕ
-eightFrom s i =
-    getD s i 0
-    + getD s (i + 1) 0 * 256
-    + getD s (i + 2) 0 * 65536
-    + getD s (i + 3) 0 * 16777216
-    + getD s (i + 4) 0 * 4294967296
-    + getD s (i + 5) 0 * 1099511627776
-    + getD s (i + 6) 0 * 281474976710656
-    + getD s (i + 7) 0 * 72057594037927936
+-- two, four and eight bytes as one number
+abbrev pub twoFrom : List ℕ → ℕ → ℕ
+twoFrom s i = getD s i 0 + getD s (i + 1) 0 * 256
+
+abbrev pub fourFrom : List ℕ → ℕ → ℕ
+fourFrom s i = twoFrom s i + twoFrom s (i + 2) * 65536
+
+abbrev pub eightFrom : List ℕ → ℕ → ℕ
+eightFrom s i = fourFrom s i + fourFrom s (i + 4) * 4294967296
 
 -- a name's beginning and end in one number: names with different numbers differ. (Names with one number may differ too, and are compared.)
 unfoldable pub keyOf : List ℕ → ℕ

@@ -24,7 +24,7 @@ ghost use Rattle.standard.specs.Judgement.{shares, namesake, clashesBelow, refu
 ghost use Rattle.layout.specs.Room.{Room};
 ghost use Rattle.index.specs.Whole.{Whole, Slotted};
 ghost use Rattle.index.specs.Extents.{extentIn, Known, meets};
-ghost use Rattle.index.specs.Names.{eightFrom, keyOf, keyIn, Keyed};
+ghost use Rattle.index.specs.Names.{twoFrom, fourFrom, eightFrom, keyOf, keyIn, Keyed};
 
 // A slot with the valid mark: 9 if it has no `HDR1`, which is position 1 of the table, and 10 for any other fault.
 fn label_refusal(g: Geometry, image: &[u8], slot: u64) -> Checked
@@ -200,19 +200,26 @@ pub fn shared(g: Geometry, image: &[u8]) -> Checked
     Checked::Passed
 }
 
-// Eight bytes as one number.
+// Two, four and eight bytes as one number.
+fn two_from(s: &[u8], at: usize) -> u64
+    requires { ⌜ (at < 127) × (length (now s) ≡ 128) ⌝ }
+    ensures { λ r. ⌜ (r ≡ twoFrom (now (s .entry)) at) × (r < 65536) ⌝ }
+{
+    wide(s[at]) + wide(s[at + 1]) * 256
+}
+
+fn four_from(s: &[u8], at: usize) -> u64
+    requires { ⌜ (at < 125) × (length (now s) ≡ 128) ⌝ }
+    ensures { λ r. ⌜ (r ≡ fourFrom (now (s .entry)) at) × (r < 4294967296) ⌝ }
+{
+    two_from(s, at) + two_from(s, at + 2) * 65536
+}
+
 fn eight_from(s: &[u8], at: usize) -> u64
     requires { ⌜ (at < 121) × (length (now s) ≡ 128) ⌝ }
     ensures { λ r. ⌜ r ≡ eightFrom (now (s .entry)) at ⌝ }
 {
-    wide(s[at])
-        + wide(s[at + 1]) * 256
-        + wide(s[at + 2]) * 65536
-        + wide(s[at + 3]) * 16777216
-        + wide(s[at + 4]) * 4294967296
-        + wide(s[at + 5]) * 1099511627776
-        + wide(s[at + 6]) * 281474976710656
-        + wide(s[at + 7]) * 72057594037927936
+    four_from(s, at) + four_from(s, at + 4) * 4294967296
 }
 
 // The beginning and the end of a name in one number: names whose numbers differ are not compared byte by byte.
