@@ -6,7 +6,7 @@ use standard::Refusal;
 ghost use mathlib.Core.Path.{_≡_};
 ghost use Prim.Native.Nat.{suc, _+_, _<_, _≤_};
 ghost use lib.Dec.{eqb};
-ghost use lib.ListN.{length};
+ghost use lib.ListN.{length, getD};
 ghost use Rattle.standard.specs.Writing.{total, wrongIn};
 ghost use Rattle.promises.specs.NeededLaws.{placedWhole, spreadTo, leastFor, placedSpanned, placed, levelFrom, FitsIn, EachFits};
 ghost use Rattle.labels.specs.Forms.{formatFor};
@@ -18,11 +18,18 @@ pub struct Level {
     pub blocks: u64,
 }
 
-// A length as a number of 64 bits.
+// A length as a number of 64 bits; the one at i of a list.
 fn wide(n: u32) -> u64
     ensures { λ r. ⌜ (r ≡ n) × (r < 4294967296) ⌝ }
 {
     n as u64
+}
+
+fn length_at(lengths: &[u32], i: usize) -> u64
+    requires { ⌜ i < length (now lengths) ⌝ }
+    ensures { λ r. ⌜ (r ≡ getD (now (lengths .entry)) i 0) × (r < 4294967296) ⌝ }
+{
+    wide(lengths[i])
 }
 
 // Refusal 25 asks this: whether the lengths sum to a number. What is left of it is counted down, so that no sum is too large.
@@ -32,7 +39,7 @@ pub fn sums_to(lengths: &[u32], size: u64) -> bool
     let mut left = size;
     let mut i = 0;
     while i < lengths.len() {
-        let n = wide(lengths[i]);
+        let n = length_at(lengths, i);
         if left < n {
             return false;
         }
@@ -60,7 +67,7 @@ pub fn first_wrong(form: Form, B: u64, R: u64, lengths: &[u32]) -> Checked
 {
     let mut i = 0;
     while i < lengths.len() {
-        if is_wrong(form, B, R, wide(lengths[i])) {
+        if is_wrong(form, B, R, length_at(lengths, i)) {
             return Checked::Stopped(Refusal::at(26, i as u64));
         }
         i += 1;
@@ -162,7 +169,7 @@ pub fn level_after(form: Form, blocked: bool, B: u64, lengths: &[u32]) -> Level
     let mut l = Level { room: 0, blocks: 0 };
     let mut i = 0;
     while i < lengths.len() {
-        l = place(form, blocked, B, l, wide(lengths[i]));
+        l = place(form, blocked, B, l, length_at(lengths, i));
         i += 1;
     }
     l

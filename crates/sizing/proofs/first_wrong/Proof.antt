@@ -23,14 +23,8 @@ abbrev μ-loop : tie.MeasureT-loop
 loop-holds : tie.Need-loop-holds Inv-loop μ-loop
 loop-holds c = search needs
 
-mul-wide : tie.Need-mul-wide Inv-loop μ-loop
-mul-wide c = search needs
-
-shared-slice-read-wide : tie.Need-shared-slice-read-wide Inv-loop μ-loop
-shared-slice-read-wide c = search needs
-
-wide-requires : tie.Need-wide-requires Inv-loop μ-loop
-wide-requires c κs = search needs
+length-at-requires : tie.Need-length-at-requires Inv-loop μ-loop
+length-at-requires c κs = search needs
 
 is-wrong-requires : tie.Need-is-wrong-requires Inv-loop μ-loop
 is-wrong-requires c κs = search needs
@@ -40,9 +34,9 @@ at-requires c κs = search needs
 
 returns : tie.Need-returns Inv-loop μ-loop
 returns c =
-    let x = c .before .before .before .before .before .before .before .before .args in
-    let w = c .before .before .before .before .before .before .loop in
-    let wrong = c .before .before .is-wrong .ensures ∙ ap (wrongIn (formatFor (x .form)) (x .B) (x .R)) (c .before .before .before .wide .ensures .0) in
+    let x = c .before .before .before .before .before .before .before .args in
+    let w = c .before .before .before .before .before .loop in
+    let wrong = c .before .before .is-wrong .ensures ∙ ap (wrongIn (formatFor (x .form)) (x .B) (x .R)) (c .before .before .before .length-at .ensures .0) in
     sym (w .inv .1 ∙ wrong-stop (formatFor (x .form)) (x .B) (x .R) (now (x .lengths)) (w .i) (omega arith) (sym wrong ∙ c .before .if1 .taken) ∙ ap Stopped (sym (c .at .ensures)))
 
 add-i : tie.Need-add-i Inv-loop μ-loop
@@ -53,9 +47,9 @@ loop-less c = search needs
 
 loop-again : tie.Need-loop-again Inv-loop μ-loop
 loop-again c =
-    let x = c .before .before .before .before .before .before .before .args in
-    let w = c .before .before .before .before .before .loop in
-    let wrong = c .before .is-wrong .ensures ∙ ap (wrongIn (formatFor (x .form)) (x .B) (x .R)) (c .before .before .wide .ensures .0) in
+    let x = c .before .before .before .before .before .before .args in
+    let w = c .before .before .before .before .loop in
+    let wrong = c .before .is-wrong .ensures ∙ ap (wrongIn (formatFor (x .form)) (x .B) (x .R)) (c .before .before .length-at .ensures .0) in
     (omega arith, w .inv .1 ∙ wrong-next (formatFor (x .form)) (x .B) (x .R) (now (x .lengths)) (w .i) (omega arith) (sym wrong ∙ c .if1 .left))
 
 returns-2 : tie.Need-returns-2 Inv-loop μ-loop
@@ -71,9 +65,7 @@ first-wrong-spec =
     Inv-loop
     μ-loop
     loop-holds
-    mul-wide
-    shared-slice-read-wide
-    wide-requires
+    length-at-requires
     is-wrong-requires
     at-requires
     returns

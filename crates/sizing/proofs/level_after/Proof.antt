@@ -23,22 +23,16 @@ abbrev μ-loop : tie.MeasureT-loop
 loop-holds : tie.Need-loop-holds Inv-loop μ-loop
 loop-holds c = search needs
 
-mul-wide : tie.Need-mul-wide Inv-loop μ-loop
-mul-wide c = search needs
-
-shared-slice-read-wide : tie.Need-shared-slice-read-wide Inv-loop μ-loop
-shared-slice-read-wide c = search needs
-
-wide-requires : tie.Need-wide-requires Inv-loop μ-loop
-wide-requires c κs = search needs
+length-at-requires : tie.Need-length-at-requires Inv-loop μ-loop
+length-at-requires c κs = search needs
 
 place-requires : tie.Need-place-requires Inv-loop μ-loop
 place-requires c κs =
-    let x = c .before .before .before .before .before .args in
-    let w = c .before .before .before .loop in
+    let x = c .before .before .before .before .args in
+    let w = c .before .before .loop in
     let d = total-drop (now (x .lengths)) (w .i) (omega arith) in
-    let f = fits-at (formatFor (x .form)) (x .B) (now (x .lengths)) (w .i) (omega arith) (c .before .before .before .before .before .pre .0) in
-    let e = c .wide .ensures in
+    let f = fits-at (formatFor (x .form)) (x .B) (now (x .lengths)) (w .i) (omega arith) (c .before .before .before .before .pre .0) in
+    let e = c .length-at .ensures in
     (subst (FitsIn (formatFor (x .form)) (x .B)) (sym (e .0)) f, omega (arith, d, w .inv .3, e .0), w .inv .2, omega arith, e .1)
 
 add-i : tie.Need-add-i Inv-loop μ-loop
@@ -49,13 +43,13 @@ loop-less c = search needs
 
 loop-again : tie.Need-loop-again Inv-loop μ-loop
 loop-again c =
-    let x = c .before .before .before .before .before .before .args in
-    let w = c .before .before .before .before .loop in
+    let x = c .before .before .before .before .before .args in
+    let w = c .before .before .before .loop in
     let d = total-drop (now (x .lengths)) (w .i) (omega arith) in
-    let e = c .before .wide .ensures in
+    let e = c .before .length-at .ensures in
     let p = c .place .ensures in
     let f = formatFor (x .form) in
-    (omega arith, w .inv .1 ∙ level-to f (x .blocked) (x .B) (w .l .room) (w .l .blocks) (now (x .lengths)) (w .i) (c .place .result) (c .before .wide .result) (omega arith) (e .0) (p .0), p .1, omega (arith, d, e .0, p .2, w .inv .3))
+    (omega arith, w .inv .1 ∙ level-to f (x .blocked) (x .B) (w .l .room) (w .l .blocks) (now (x .lengths)) (w .i) (c .place .result) (c .before .length-at .result) (omega arith) (e .0) (p .0), p .1, omega (arith, d, e .0, p .2, w .inv .3))
 
 returns : tie.Need-returns Inv-loop μ-loop
 returns c =
@@ -71,9 +65,7 @@ level-after-spec =
     Inv-loop
     μ-loop
     loop-holds
-    mul-wide
-    shared-slice-read-wide
-    wide-requires
+    length-at-requires
     place-requires
     add-i
     loop-less

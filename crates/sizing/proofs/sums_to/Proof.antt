@@ -21,20 +21,14 @@ abbrev μ-loop : tie.MeasureT-loop
 loop-holds : tie.Need-loop-holds Inv-loop μ-loop
 loop-holds c = search needs
 
-mul-wide : tie.Need-mul-wide Inv-loop μ-loop
-mul-wide c = search needs
-
-shared-slice-read-wide : tie.Need-shared-slice-read-wide Inv-loop μ-loop
-shared-slice-read-wide c = search needs
-
-wide-requires : tie.Need-wide-requires Inv-loop μ-loop
-wide-requires c κs = search needs
+length-at-requires : tie.Need-length-at-requires Inv-loop μ-loop
+length-at-requires c κs = search needs
 
 returns : tie.Need-returns Inv-loop μ-loop
 returns c =
-    let x = c .before .before .before .before .before .before .args in
-    let w = c .before .before .before .before .loop in
-    sum-over (now (x .lengths)) (w .i) (w .left) (x .size) (c .before .wide .result) (omega arith) (c .before .wide .ensures .0) (w .inv .1) (omega arith)
+    let x = c .before .before .before .before .before .args in
+    let w = c .before .before .before .loop in
+    sum-over (now (x .lengths)) (w .i) (w .left) (x .size) (c .before .length-at .result) (omega arith) (c .before .length-at .ensures .0) (w .inv .1) (omega arith)
 
 add-i : tie.Need-add-i Inv-loop μ-loop
 add-i c = search needs
@@ -44,10 +38,10 @@ loop-less c = search needs
 
 loop-again : tie.Need-loop-again Inv-loop μ-loop
 loop-again c =
-    let x = c .before .before .before .before .before .before .args in
-    let w = c .before .before .before .before .loop in
+    let x = c .before .before .before .before .before .args in
+    let w = c .before .before .before .loop in
     let d = total-drop (now (x .lengths)) (w .i) (omega arith) in
-    (omega arith, omega (arith, d, w .inv .1, c .before .wide .ensures .0))
+    (omega arith, omega (arith, d, w .inv .1, c .before .length-at .ensures .0))
 
 returns-2 : tie.Need-returns-2 Inv-loop μ-loop
 returns-2 c =
@@ -62,9 +56,7 @@ sums-to-spec =
     Inv-loop
     μ-loop
     loop-holds
-    mul-wide
-    shared-slice-read-wide
-    wide-requires
+    length-at-requires
     returns
     add-i
     loop-less
