@@ -6,6 +6,7 @@ use extents::is_defective;
 use extents::next_good;
 use extents::one_unless;
 use extents::skip_good;
+use fields::copy_run;
 use fields::wide16;
 use layout::check_failed;
 use layout::kind_after;
@@ -160,18 +161,6 @@ pub fn all_fill(g: Geometry, image: &[u8], from: Cursor, first: u64, count: u64)
         return true;
     }
     fill_run(image, byte_offset(g, c, i), n)
-}
-
-// n bytes of the image, laid into the output from byte `at` on.
-fn copy_run(image: &[u8], from: u64, out: &mut [u8], at: u64, n: u64)
-    requires { ⌜ (from + n ≤ length (now image)) × (at + n ≤ length (now out)) ⌝ }
-    ensures { λ r. ⌜ now (out .exit) ≡ paste (now (out .entry)) at (drop from (now (image .entry))) n ⌝ }
-{
-    let mut i = 0;
-    while i < n {
-        out[(at + i) as usize] = image[(from + i) as usize];
-        i += 1;
-    }
 }
 
 // The bytes from a spot on, laid into the output: record by record, as in `all_fill`.

@@ -11,7 +11,8 @@ ghost use mathlib.Core.Path.{_≡_};
 ghost use mathlib.Core.Bool.{_&&_, _||_, not};
 ghost use mathlib.Core.List.{[], _∷_};
 ghost use Prim.Native.Nat.{_+_, _-_, _*_, _%_, _<_, _≤_};
-ghost use lib.ListN.{length, getD};
+ghost use lib.ListN.{length, getD, drop};
+ghost use lib.Seq.{paste};
 ghost use lib.Dec.{eqb};
 ghost use Rattle.standard.specs.Characters.{between, oneOf, same, every, aSet, isHex, digits, digitValue, number, hexValue, hex, spacesOrNumber};
 ghost use Rattle.standard.specs.Addresses.{addressIn, legal, pastLast, rank, isAddress};
@@ -280,6 +281,18 @@ pub fn wide16(p: u16) -> u64
     ensures { λ r. ⌜ (r ≡ p) × (r < 65536) ⌝ }
 {
     p as u64
+}
+
+// Bytes: n of a list, from an index on, laid over those of another.
+pub fn copy_run(bytes: &[u8], from: u64, out: &mut [u8], at: u64, n: u64)
+    requires { ⌜ (from + n ≤ length (now bytes)) × (at + n ≤ length (now out)) ⌝ }
+    ensures { λ r. ⌜ now (out .exit) ≡ paste (now (out .entry)) at (drop from (now (bytes .entry))) n ⌝ }
+{
+    let mut i = 0;
+    while i < n {
+        out[(at + i) as usize] = bytes[(from + i) as usize];
+        i += 1;
+    }
 }
 
 // Addresses. "cylinder 01..L, side below S, sector 01..D."

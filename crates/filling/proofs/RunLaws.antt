@@ -4,8 +4,8 @@ use Prim.Native.Nat.{ℕ, _+_, _-_, _<_, _≤_}
 use mathlib.Core.Path.{_≡_, sym, ap, _∙_}
 use mathlib.Core.Bool.{cond}
 use mathlib.Core.List.{List, [], _∷_, _++_, append-assoc}
-use lib.ListN.{length, getD, take, drop, set, length-drop, length-append, length-replicate, take-append-drop, replicate-append-replicate}
-use lib.Seq.{set-split, take-suc, getD-drop, length-take-le, take-take, take-add, drop-drop, drop-append-le, take-append-add, drop-append-add}
+use lib.ListN.{length, take, drop, set, length-drop, length-append, length-replicate, take-append-drop, replicate-append-replicate}
+use lib.Seq.{paste, set-split, length-take-le, take-take, take-add, drop-drop, drop-append-le, take-append-add, drop-append-add}
 use lib.Dec.{leb}
 use native.Mathlib.Omega.{arith}
 use borrow.Author.Tests.{leb-true, leb-false}
@@ -34,17 +34,6 @@ splice-more o x y s h =
     let l = splice-length o x s (omega arith) in
     set-splice (o + length x) y (splice o x s) (omega arith) ∙ splice-join o x (y ∷ []) s (omega arith)
 
-pub bytes-more : (i from k : ℕ) (bytes s : List ℕ) → i + k < length s → from + k < length bytes
-    → set (splice i (take k (drop from bytes)) s) (i + k) (getD bytes (from + k) 0) ≡ splice i (take (k + 1) (drop from bytes)) s
-bytes-more i from k bytes s h l =
-    let d = drop from bytes in
-    let ld = length-drop from bytes in
-    let lx = length-take-le k d (omega arith) in
-    let b = getD bytes (from + k) 0 in
-    let e : take k d ++ (b ∷ []) ≡ take (k + 1) d =
-    sym (ap (λ (n : ℕ). take n d) (add-one k) ∙ take-suc d k 0 (omega arith) ∙ ap (λ (y : ℕ). take k d ++ (y ∷ [])) (getD-drop from bytes k 0)) in
-    ap (λ (n : ℕ). set (splice i (take k d) s) (i + n) b) (sym lx) ∙ splice-more i (take k d) b s (omega arith) ∙ ap (λ (t : List ℕ). splice i t s) e
-
 pub fill-more : (i k : ℕ) (s : List ℕ) → i + k < length s → set (splice i (fill k) s) (i + k) 0 ≡ splice i (fill (k + 1)) s
 fill-more i k s h =
     let l = length-replicate {A = ℕ} k 0 in
@@ -56,13 +45,22 @@ packed-length bytes from n zeros h =
     let ld = length-drop from bytes in
     length-append (take n (drop from bytes)) (fill zeros) ∙ omega (arith, length-take-le n (drop from bytes) (omega arith), length-replicate {A = ℕ} zeros 0)
 
-pub pack-is : (bytes : List ℕ) (from n zeros i : ℕ) (s t u : List ℕ) → from + n ≤ length bytes → i ≤ length s → t ≡ splice i (take n (drop from bytes)) s → u ≡ splice (i + n) (fill zeros) t
+copied : (i n : ℕ) (x s : List ℕ) → n ≤ length x → paste s i x n ≡ splice i (take n x) s
+unfolding splice
+copied i n x s h =
+    append-assoc (take i s) (take n x) (drop (i + n) s)
+    ∙ ap (λ (m : ℕ). take i s ++ (take n x ++ drop (i + m) s)) (sym (length-take-le n x h))
+
+pub pack-is : (bytes : List ℕ) (from n zeros i : ℕ) (s t u : List ℕ) → from + n ≤ length bytes → i ≤ length s → t ≡ paste s i (drop from bytes) n → u ≡ splice (i + n) (fill zeros) t
     → u ≡ splice i (packed bytes from n zeros) s
 pack-is bytes from n zeros i s t u h l e f =
     let x = take n (drop from bytes) in
     let ld = length-drop from bytes in
     let lx = length-take-le n (drop from bytes) (omega arith) in
-    f ∙ ap (λ (m : ℕ). splice (i + m) (fill zeros) t) (sym lx) ∙ ap (splice (i + length x) (fill zeros)) e ∙ splice-join i x (fill zeros) s l
+    f
+    ∙ ap (λ (m : ℕ). splice (i + m) (fill zeros) t) (sym lx)
+    ∙ ap (splice (i + length x) (fill zeros)) (e ∙ copied i n (drop from bytes) s (omega arith))
+    ∙ splice-join i x (fill zeros) s l
 
 -- a part is handed out, bytes are laid into it, and it comes back
 pub in-part : (a i k : ℕ) (x s : List ℕ) → i + length x ≤ k → a + k ≤ length s

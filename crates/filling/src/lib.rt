@@ -3,6 +3,7 @@
 // volume.
 use extents::Cursor;
 use extents::next_good;
+use fields::copy_run;
 use fields::wide16;
 use layout::kind_behind;
 use layout::kind_of;
@@ -30,18 +31,6 @@ pub struct Pen {
     pub at: u64,
 }
 
-// n bytes of a list, laid into a record's body from byte i on.
-fn lay_bytes(body: &mut [u8], i: usize, bytes: &[u8], from: usize, n: usize)
-    requires { ⌜ (i + n ≤ length (now body)) × (from + n ≤ length (now bytes)) ⌝ }
-    ensures { λ r. ⌜ now (body .exit) ≡ splice i (take n (drop from (now (bytes .entry)))) (now (body .entry)) ⌝ }
-{
-    let mut k = 0;
-    while k < n {
-        body[i + k] = bytes[from + k];
-        k += 1;
-    }
-}
-
 // "Content left, and physical records' ends, are filled with 00."
 fn lay_fill(body: &mut [u8], i: usize, n: usize)
     requires { ⌜ i + n ≤ length (now body) ⌝ }
@@ -59,7 +48,7 @@ fn pack(body: &mut [u8], i: usize, bytes: &[u8], from: usize, n: usize, zeros: u
     requires { ⌜ (i + n + zeros ≤ length (now body)) × (from + n ≤ length (now bytes)) ⌝ }
     ensures { λ r. ⌜ now (body .exit) ≡ splice i (packed (now (bytes .entry)) from n zeros) (now (body .entry)) ⌝ }
 {
-    lay_bytes(body, i, bytes, from, n);
+    copy_run(bytes, from as u64, body, i as u64, n as u64);
     lay_fill(body, i + n, zeros);
 }
 

@@ -9,19 +9,19 @@ use native.Mathlib.Omega.{arith}
 use lib.ListN.{set, getD, drop, length, length-drop, length-set}
 use lib.Seq.{paste, paste-zero, paste-suc, getD-drop}
 use denote.Ref.{now}
-use Rattle.blocks.proofs.copy_run.Statement.{statement}
-use Rattle.blocks.proofs.copy_run.Tie as tie
+use Rattle.fields.proofs.copy_run.Statement.{statement}
+use Rattle.fields.proofs.copy_run.Tie as tie
 
 abbrev Inv-loop : tie.InvT-loop
-Inv-loop image from out₀ at n i₀ out i = (i ≤ n) × (length out ≡ length out₀) × (out ≡ paste out₀ at (drop from image) i)
+Inv-loop bytes from out₀ at n i₀ out i = (i ≤ n) × (length out ≡ length out₀) × (out ≡ paste out₀ at (drop from bytes) i)
 
 abbrev μ-loop : tie.MeasureT-loop
-μ-loop image from out₀ at n i₀ out i = n - i
+μ-loop bytes from out₀ at n i₀ out i = n - i
 
 loop-holds : tie.Need-loop-holds Inv-loop μ-loop
 loop-holds c =
     let x = c .args in
-    (omega arith, refl, paste-zero (now (x .out)) (x .at) (drop (x .from) (now (x .image))))
+    (omega arith, refl, paste-zero (now (x .out)) (x .at) (drop (x .from) (now (x .bytes))))
 
 add-out : tie.Need-add-out Inv-loop μ-loop
 add-out c = search needs
@@ -45,13 +45,13 @@ loop-again : tie.Need-loop-again Inv-loop μ-loop
 loop-again c =
     let x = c .before .before .before .args in
     let w = c .before .before .loop in
-    let s = drop (x .from) (now (x .image)) in
+    let s = drop (x .from) (now (x .bytes)) in
     let o = now (x .out) in
-    let l : w .i < length s = rw (length-drop (x .from) (now (x .image))) (omega arith) in (
+    let l : w .i < length s = rw (length-drop (x .from) (now (x .bytes))) (omega arith) in (
       omega arith,
       length-set (w .out) (x .at + w .i) _ ∙ w .inv .1,
-      ap (λ (d : List ℕ). set d (x .at + w .i) (getD (now (x .image)) (x .from + w .i) 0)) (w .inv .2)
-          ∙ (ap (λ (y : ℕ). set (paste o (x .at) s (w .i)) (x .at + w .i) y) (sym (getD-drop (x .from) (now (x .image)) (w .i) 0))
+      ap (λ (d : List ℕ). set d (x .at + w .i) (getD (now (x .bytes)) (x .from + w .i) 0)) (w .inv .2)
+          ∙ (ap (λ (y : ℕ). set (paste o (x .at) s (w .i)) (x .at + w .i) y) (sym (getD-drop (x .from) (now (x .bytes)) (w .i) 0))
           ∙ rw (add-one (w .i)) (paste-suc o (x .at) s (w .i) 0 (omega arith) l)),
     )
 
@@ -63,7 +63,7 @@ returns c =
     let x = c .before .before .args in
     let w = c .before .loop in
     let e : w .i ≡ x .n = omega (arith, w .inv .0) in
-    w .inv .2 ∙ ap (λ (k : ℕ). paste (now (x .out)) (x .at) (drop (x .from) (now (x .image))) k) e
+    w .inv .2 ∙ ap (λ (k : ℕ). paste (now (x .out)) (x .at) (drop (x .from) (now (x .bytes))) k) e
 
 pub copy-run-spec : {M : Type 1} → statement M
 copy-run-spec =
