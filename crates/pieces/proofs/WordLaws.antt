@@ -17,7 +17,7 @@ use Rattle.blocks.specs.Streams.{fiveOf}
 use Rattle.blocks.specs.declared.Five.{Five}
 use Rattle.fields.specs.declared.Perhaps.{Perhaps}
 use Rattle.fields.specs.declared.Perhaps.the-variants.{Nothing, Number}
-use Rattle.pieces.specs.Looks.{roleNumber, seenOf, perhapsIn, fourRead, partF, partV, partS}
+use Rattle.pieces.specs.Looks.{roleNumber, seenOf, perhapsIn, fourRead, partF, partOf, partV, partS}
 use Rattle.pieces.specs.declared.Seen.the-variants.{Blank, Broken, Part}
 
 -- four digits
@@ -68,7 +68,7 @@ look-fixed R n s l = ap (partF R) (sym (length-take-le n s l)) ∙ from-f R (tak
 
 -- V and S by a number
 from-v : (R : ℕ) (rest : List ℕ) (size : Option ℕ) → partV R (length rest) (perhapsIn size) ≡ seenOf (sizedV R rest size)
-unfolding partV
+unfolding partOf
 from-v R rest none = refl
 from-v R rest (some z) = go (leb 4 z && leb z R && leb z (length rest))
   where
@@ -104,21 +104,28 @@ role-small first = omega arith
 role-small middle = omega arith
 role-small last = omega arith
 
+and-twice : (a b : Bool) → (a && b && b) ≡ (a && b)
+and-twice true true = refl
+and-twice true false = refl
+and-twice false b = refl
+
 segment : (c : ℕ) (k : Role) (rest : List ℕ) (size : Option ℕ) → c ≡ 48 + roleNumber k → partS (length rest) c (perhapsIn size) ≡ seenOf (sizedS rest (some k) size)
-unfolding partS
-segment c k rest none e = refl
-segment c k rest (some z) e =
+unfolding partS partOf
+segment c k rest size e =
     let d : c - 48 ≡ roleNumber k = omega arith in
-    rw (le-leb 48 c (omega arith), le-leb c 51 (omega (arith, role-small k)), d) (go (leb 5 z && leb z (length rest)))
+    rw (le-leb 48 c (omega arith), le-leb c 51 (omega (arith, role-small k)), d) (by-size size)
   where
-    go : (t : Bool) → cond t (Part (roleNumber k) z) Broken ≡ seenOf (cond t (piece k (take (z - 5) (drop 5 rest)) z) broken)
-    go true = refl
-    go false = refl
+    by-size : (size : Option ℕ) → partOf 5 (length rest) (length rest) (roleNumber k) (perhapsIn size) ≡ seenOf (sizedS rest (some k) size)
+    by-size none = refl
+    by-size (some z) = rw (and-twice (leb 5 z) (leb z (length rest))) (go (leb 5 z && leb z (length rest)))
+      where
+        go : (t : Bool) → cond t (Part (roleNumber k) z) Broken ≡ seenOf (cond t (piece k (take (z - 5) (drop 5 rest)) z) broken)
+        go true = refl
+        go false = refl
 
 no-segment : (c : ℕ) (rest : List ℕ) (size : Option ℕ) → (leb 48 c && leb c 51) ≡ false → partS (length rest) c (perhapsIn size) ≡ Broken
 unfolding partS
-no-segment c rest none h = refl
-no-segment c rest (some z) h = ap (λ (t : Bool). cond (t && (leb 5 z && leb z (length rest))) (Part (c - 48) z) Broken) h
+no-segment c rest size h = rw h
 
 from-s : (c : ℕ) (rest : List ℕ) (size : Option ℕ) → partS (length rest) c (perhapsIn size) ≡ seenOf (sizedS rest (roleOf c) size)
 from-s c rest size = go (known c)
@@ -219,7 +226,7 @@ module _ (n : ℕ) (s : List ℕ) (l : n ≤ length s) where
       ∙ (ap (λ (m : ℕ). partS m (getD rest 0 0) (perhapsIn size)) (sym whole-length)
       ∙ (from-s (getD rest 0 0) rest size ∙ sym (ap (λ (u : Bool). seenOf (cond u (mustFill rest) (sizedS rest (roleOf (getD rest 0 0)) size))) t))))
 
--- the exits of `look_f`, `sized_v` and `sized_s`
+-- the exits of `look_f`
 module _ (R n : ℕ) where
   pub f-none : n ≡ 0 → Blank ≡ partF R n
   unfolding partF
@@ -237,49 +244,25 @@ module _ (R n : ℕ) where
   unfolding partF
   f-right h k m = simp (ne-eqb n 0 h, le-leb 1 R k, le-leb R n m)
 
-  pub v-none : (size : Perhaps) → size ≡ Nothing → Broken ≡ partV R n size
-  unfolding partV
-  v-none size e = rw e
+-- the exits of `sized`
+module _ (low high n k : ℕ) where
+  pub part-none : (size : Perhaps) → size ≡ Nothing → Broken ≡ partOf low high n k size
+  unfolding partOf
+  part-none size e = rw e
 
   module _ (size : Perhaps) (z : ℕ) (is : size ≡ Number z) where
-    pub v-small : z < 4 → Broken ≡ partV R n size
-    unfolding partV
-    v-small h = rw is (simp (lt-leb 4 z h))
+    pub part-small : z < low → Broken ≡ partOf low high n k size
+    unfolding partOf
+    part-small h = rw is (simp (lt-leb low z h))
 
-    pub v-over : 4 ≤ z → R < z → Broken ≡ partV R n size
-    unfolding partV
-    v-over h k = rw is (simp (le-leb 4 z h, lt-leb z R k))
+    pub part-over : low ≤ z → high < z → Broken ≡ partOf low high n k size
+    unfolding partOf
+    part-over h o = rw is (simp (le-leb low z h, lt-leb z high o))
 
-    pub v-large : 4 ≤ z → z ≤ R → n < z → Broken ≡ partV R n size
-    unfolding partV
-    v-large h k m = rw is (simp (le-leb 4 z h, le-leb z R k, lt-leb z n m))
+    pub part-large : low ≤ z → z ≤ high → n < z → Broken ≡ partOf low high n k size
+    unfolding partOf
+    part-large h o m = rw is (simp (le-leb low z h, le-leb z high o, lt-leb z n m))
 
-    pub v-right : 4 ≤ z → z ≤ R → z ≤ n → Part 0 z ≡ partV R n size
-    unfolding partV
-    v-right h k m = rw is (simp (le-leb 4 z h, le-leb z R k, le-leb z n m))
-
-module _ (n c : ℕ) where
-  pub s-none : (size : Perhaps) → size ≡ Nothing → Broken ≡ partS n c size
-  unfolding partS
-  s-none size e = rw e
-
-  module _ (size : Perhaps) (z : ℕ) (is : size ≡ Number z) where
-    pub s-below : c < 48 → Broken ≡ partS n c size
-    unfolding partS
-    s-below h = rw is (simp (lt-leb 48 c h))
-
-    pub s-above : 48 ≤ c → 51 < c → Broken ≡ partS n c size
-    unfolding partS
-    s-above h k = rw is (simp (le-leb 48 c h, lt-leb c 51 k))
-
-    pub s-small : 48 ≤ c → c ≤ 51 → z < 5 → Broken ≡ partS n c size
-    unfolding partS
-    s-small h k m = rw is (simp (le-leb 48 c h, le-leb c 51 k, lt-leb 5 z m))
-
-    pub s-large : 48 ≤ c → c ≤ 51 → 5 ≤ z → n < z → Broken ≡ partS n c size
-    unfolding partS
-    s-large h k m o = rw is (simp (le-leb 48 c h, le-leb c 51 k, le-leb 5 z m, lt-leb z n o))
-
-    pub s-right : 48 ≤ c → c ≤ 51 → 5 ≤ z → z ≤ n → Part (c - 48) z ≡ partS n c size
-    unfolding partS
-    s-right h k m o = rw is (simp (le-leb 48 c h, le-leb c 51 k, le-leb 5 z m, le-leb z n o))
+    pub part-right : low ≤ z → z ≤ high → z ≤ n → Part k z ≡ partOf low high n k size
+    unfolding partOf
+    part-right h o m = rw is (simp (le-leb low z h, le-leb z high o, le-leb z n m))

@@ -46,12 +46,15 @@ fourRead a b c d = perhapsIn (number4 a b c d)
 unfoldable pub partF : ℕ → ℕ → Seen
 partF R n = cond (eqb n 0) Blank (cond (leb 1 R && leb R n) (Part 0 R) Broken)
 
+-- a record or segment by its digit and the number of its control word: from a least to a most, "inside the content" of n bytes
+unfoldable pub partOf : ℕ → ℕ → ℕ → ℕ → Perhaps → Seen
+partOf low high n k Nothing = Broken
+partOf low high n k (Number z) = cond (leb low z && leb z high && leb z n) (Part k z) Broken
+
 -- "V: four digits, from 4 to R, then the body, inside the content"
-unfoldable pub partV : ℕ → ℕ → Perhaps → Seen
-partV R n Nothing = Broken
-partV R n (Number z) = cond (leb 4 z && leb z R && leb z n) (Part 0 z) Broken
+abbrev pub partV : ℕ → ℕ → Perhaps → Seen
+partV R n size = partOf 4 R n 0 size
 
 -- "S: `0`-`3`, four digits from 5, inside the content", where the segment's first byte is c
 unfoldable pub partS : ℕ → ℕ → Perhaps → Seen
-partS n c Nothing = Broken
-partS n c (Number z) = cond ((leb 48 c && leb c 51) && (leb 5 z && leb z n)) (Part (c - 48) z) Broken
+partS n c size = cond (leb 48 c && leb c 51) (partOf 5 n n (c - 48) size) Broken

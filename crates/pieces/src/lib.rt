@@ -17,7 +17,7 @@ ghost use Rattle.labels.specs.Forms.{formatFor};
 ghost use Rattle.extents.specs.Cursors.{legalAt};
 ghost use Rattle.layout.specs.Room.{Sized};
 ghost use Rattle.blocks.specs.Streams.{stream};
-ghost use Rattle.pieces.specs.Looks.{headOf, seenOf, fourRead, partF, partV, partS};
+ghost use Rattle.pieces.specs.Looks.{headOf, seenOf, fourRead, partF, partOf, partS};
 
 // What stands there: fill alone, or nothing; a rule is broken; a record or segment, by its `0`-`3` as a number (0 for a record of F or V, which is a whole) and
 // its size, control word counted.
@@ -77,26 +77,27 @@ fn look_f(n: u64, r: u64) -> Seen
     Seen::Part(0, r)
 }
 
-// "V: four digits, from 4 to R, then the body, inside the content"
-fn sized_v(r: u64, n: u64, size: Perhaps) -> Seen
-    ensures { λ x. ⌜ x ≡ partV r n size ⌝ }
+// A record or segment by its digit and the number of its control word: "from" a least "to" a most, "inside the content" of n bytes.
+fn sized(low: u64, high: u64, n: u64, role: u64, size: Perhaps) -> Seen
+    ensures { λ x. ⌜ x ≡ partOf low high n role size ⌝ }
 {
     let Perhaps::Number(z) = size else {
         return Seen::Broken;
     };
-    if z < 4 {
+    if z < low {
         return Seen::Broken;
     }
-    if r < z {
+    if high < z {
         return Seen::Broken;
     }
     if n < z {
         return Seen::Broken;
     }
-    Seen::Part(0, z)
+    Seen::Part(role, z)
 }
 
-// "In V, with fewer than 4 bytes left (S: 5), or at a byte 00, the rest must be fill." "if unblocked, at offsets above 0 only fill"
+// "V: four digits, from 4 to R, then the body, inside the content". "In V, with fewer than 4 bytes left (S: 5), or at a byte 00, the rest must be fill."
+// "if unblocked, at offsets above 0 only fill"
 fn look_v(
     g: Geometry,
     image: &[u8],
@@ -121,29 +122,20 @@ fn look_v(
     if w.a == 0 {
         return fill_only(g, image, c, i, n);
     }
-    sized_v(r, n, four_digits(w.a, w.b, w.c, w.d))
+    sized(4, r, n, 0, four_digits(w.a, w.b, w.c, w.d))
 }
 
 // "S: `0`-`3`, four digits from 5, inside the content", where c is the first byte
 fn sized_s(n: u64, c: u64, size: Perhaps) -> Seen
     ensures { λ x. ⌜ x ≡ partS n c size ⌝ }
 {
-    let Perhaps::Number(z) = size else {
-        return Seen::Broken;
-    };
     if c < 48 {
         return Seen::Broken;
     }
     if 51 < c {
         return Seen::Broken;
     }
-    if z < 5 {
-        return Seen::Broken;
-    }
-    if n < z {
-        return Seen::Broken;
-    }
-    Seen::Part(c - 48, z)
+    sized(5, n, n, c - 48, size)
 }
 
 // The same in S, with 5.

@@ -37,14 +37,14 @@ returns-3 c =
 four-digits-requires : tie.Need-four-digits-requires
 four-digits-requires c κs = search needs
 
-sized-v-requires : tie.Need-sized-v-requires
-sized-v-requires c κs = search needs
+sized-requires : tie.Need-sized-requires
+sized-requires c κs = search needs
 
 returns-4 : tie.Need-returns-4
 returns-4 c =
     let x = c .before .before .before .before .before .before .before .before .args in
     let w = c .before .before .before .before .first-five in
-    c .sized-v .ensures ∙ (ap (partV (x .r) (x .n)) (c .before .four-digits .ensures) ∙ v-word (x .n) (stream (x .g) (now (x .image)) (x .c) (x .i)) (omega arith) (x .r) (x .blocked) (x .o) (omega arith) (c .before .before .before .before .before .if2 .left) (w .result) (w .ensures .0) (λ z. omega arith))
+    c .sized .ensures ∙ (ap (partV (x .r) (x .n)) (c .before .four-digits .ensures) ∙ v-word (x .n) (stream (x .g) (now (x .image)) (x .c) (x .i)) (omega arith) (x .r) (x .blocked) (x .o) (omega arith) (c .before .before .before .before .before .if2 .left) (w .result) (w .ensures .0) (λ z. omega arith))
 
 pub look-v-spec : {M : Type 1} → statement M
 look-v-spec =
@@ -58,5 +58,5 @@ look-v-spec =
     fill-only-requires-3
     returns-3
     four-digits-requires
-    sized-v-requires
+    sized-requires
     returns-4)

@@ -1,36 +1,25 @@
 -- `sized_s` meets its contract.
 -- Assumes nothing.
-use native.Mathlib.Omega.{arith}
-use Rattle.pieces.proofs.WordLaws.{s-none, s-below, s-above, s-small, s-large, s-right}
 use borrow.Author.Needs.{needs}
+use borrow.Author.Tests.{le-leb, lt-leb}
+use Rattle.pieces.specs.Looks.{partS}
 use Rattle.pieces.proofs.sized_s.Statement.{statement}
 use Rattle.pieces.proofs.sized_s.Tie as tie
 
-enum-known-size : tie.Need-enum-known-size
-enum-known-size c = search needs
-
-enum-told : tie.Need-enum-told
-enum-told c = search needs
-
 returns : tie.Need-returns
-returns c = s-none _ _ _ (c .enum-told .given .1)
+unfolding partS
+returns c = search (needs, le-leb, lt-leb)
 
 returns-2 : tie.Need-returns-2
-returns-2 c = s-below _ _ _ _ (c .before .before .size .given .1) (omega arith)
+unfolding partS
+returns-2 c = search (needs, le-leb, lt-leb)
+
+sized-requires : tie.Need-sized-requires
+sized-requires c κs = search needs
 
 returns-3 : tie.Need-returns-3
-returns-3 c = s-above _ _ _ _ (c .before .before .before .size .given .1) (omega arith) (omega arith)
-
-returns-4 : tie.Need-returns-4
-returns-4 c = s-small _ _ _ _ (c .before .before .before .before .size .given .1) (omega arith) (omega arith) (omega arith)
-
-returns-5 : tie.Need-returns-5
-returns-5 c = s-large _ _ _ _ (c .before .before .before .before .before .size .given .1) (omega arith) (omega arith) (omega arith) (omega arith)
-
-returns-6 : tie.Need-returns-6
-returns-6 c = s-right _ _ _ _ (c .before .before .before .before .before .size .given .1) (omega arith) (omega arith) (omega arith) (omega arith)
+unfolding partS
+returns-3 c = search (needs, le-leb, lt-leb)
 
 pub sized-s-spec : {M : Type 1} → statement M
-sized-s-spec =
-    tie.close
-    (tie.spec enum-known-size enum-told returns returns-2 returns-3 returns-4 returns-5 returns-6)
+sized-s-spec = tie.close (tie.spec returns returns-2 sized-requires returns-3)
