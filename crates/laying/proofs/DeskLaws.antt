@@ -19,8 +19,9 @@ use Rattle.standard.specs.Writing.{total, parted, filledTo}
 use Rattle.standard.specs.declared.Geometry.{Geometry}
 use Rattle.labels.specs.Forms.{formatFor}
 use Rattle.labels.specs.declared.Form.{Form}
+use Rattle.labels.specs.declared.Form.the-variants.{Fixed, Variable, Spanned}
 use Rattle.promises.specs.Lists.{Every}
-use Rattle.promises.specs.NeededLaws.{leastFor, least-for}
+use Rattle.promises.specs.NeededLaws.{leastFor, least-for, EachFits}
 use Rattle.promises.specs.StoreLaws.{total-drop}
 use Rattle.promises.specs.WritingPromises.{parted-lengths, parted-joined}
 use Rattle.standard.specs.declared.Address.{Address}
@@ -318,6 +319,9 @@ module _ (g : Geometry) (i : List ℕ) (c : Cursor) (f : Format) (blocked : Bool
       sym (begins ∙ (ap (laidBy g i₁ p) (sym (append-nil cs)) ∙ (k .0 [] ∙ lays-done g i₂ r (k .1))))
 
 -- ---- BY THE FORMAT
+pub fits-in : (form f : Form) (B : ℕ) (lengths : List ℕ) → form ≡ f → EachFits (formatFor form) B lengths → EachFits (formatFor f) B lengths
+fits-in form f B lengths e fits = subst (λ (k : Form). EachFits (formatFor k) B lengths) e fits
+
 module _ (g : Geometry) (i i′ : List ℕ) (p p′ : Pen) (blocked : Bool) (B size : ℕ) (bodies lengths : List ℕ) (sum : total lengths ≡ length bodies) where
   abbrev Listed : Format → Type 0
   Listed f = Lays g i p (flat size (packIn f blocked B (parted bodies lengths) .contents)) i′ p′
@@ -325,21 +329,32 @@ module _ (g : Geometry) (i i′ : List ℕ) (p p′ : Pen) (blocked : Bool) (B s
   relaid : (f : Format) (xs : List ℕ) → xs ≡ flat size (packIn f blocked B (parted bodies lengths) .contents) → Lays g i p xs i′ p′ → Listed f
   relaid f xs e h = subst (λ (ys : List ℕ). Lays g i p ys i′ p′) e h
 
-  pub listed-F : Tiled B lengths → Lays g i p (flat size (chunks B bodies)) i′ p′ → Listed fixed
+  listed-F : Tiled B lengths → Lays g i p (flat size (chunks B bodies)) i′ p′ → Listed fixed
   listed-F t h =
       let each : Every (λ (x : List ℕ). length x ≡ t .R) (parted bodies lengths) = every-lengths (λ n. n ≡ t .R) (parted bodies lengths) (subst (Every (λ n. n ≡ t .R)) (sym (parted-lengths lengths bodies sum)) (t .each)) in
       relaid fixed _ (ap (flat size) (sym (packed-F blocked size (t .R) (t .q) B (t .some) (t .many) (t .whole) (parted bodies lengths) each ∙ ap (chunks B) (parted-joined lengths bodies sum)))) h
 
-  pub listed-as : (form f : Form) → form ≡ f → Listed (formatFor f) → Listed (formatFor form)
-  listed-as form f e h = subst (λ (k : Form). Listed (formatFor k)) (sym e) h
-
-  pub listed-V : B ≤ size → Every (fitsAs false B) lengths → Lays g i p (flatLaid size 0 (layFrom false blocked B 0 (parted bodies lengths))) i′ p′ → Listed variable
+  listed-V : B ≤ size → Every (fitsAs false B) lengths → Lays g i p (flatLaid size 0 (layFrom false blocked B 0 (parted bodies lengths))) i′ p′ → Listed variable
   listed-V b fits h =
       relaid variable _ (sym (packed-V blocked size B (parted bodies lengths) b (subst (Every (fitsAs false B)) (sym (parted-lengths lengths bodies sum)) fits))) h
 
-  pub listed-S : Every (fitsAs true B) lengths → Lays g i p (flatLaid size 0 (layFrom true true B 0 (parted bodies lengths))) i′ p′ → Listed spanned
+  listed-S : Every (fitsAs true B) lengths → Lays g i p (flatLaid size 0 (layFrom true true B 0 (parted bodies lengths))) i′ p′ → Listed spanned
   listed-S fits h =
       relaid spanned _ (sym (packed-S blocked true size B (parted bodies lengths) (subst (Every (fitsAs true B)) (sym (parted-lengths lengths bodies sum)) fits))) h
+
+  -- whichever the form is
+  module _ (form : Form) (fits : EachFits (formatFor form) B lengths) where
+    form-is : (f : Form) → form ≡ f → Listed (formatFor f) → Listed (formatFor form)
+    form-is f e h = subst (λ (k : Form). Listed (formatFor k)) (sym e) h
+
+    pub listed-fixed : form ≡ Fixed → (form ≡ Fixed → Tiled B lengths) → Lays g i p (flat size (chunks B bodies)) i′ p′ → Listed (formatFor form)
+    listed-fixed e t h = form-is Fixed e (listed-F (t e) h)
+
+    pub listed-variable : form ≡ Variable → B ≤ size → Lays g i p (flatLaid size 0 (layFrom false blocked B 0 (parted bodies lengths))) i′ p′ → Listed (formatFor form)
+    listed-variable e b h = form-is Variable e (listed-V b (fits-in form Variable B lengths e fits) h)
+
+    pub listed-spanned : form ≡ Spanned → Lays g i p (flatLaid size 0 (layFrom true true B 0 (parted bodies lengths))) i′ p′ → Listed (formatFor form)
+    listed-spanned e h = form-is Spanned e (listed-S (fits-in form Spanned B lengths e fits) h)
 
 -- ---- F: block by block
 module _ (g : Geometry) (B size : ℕ) (bodies : List ℕ) where

@@ -1,11 +1,7 @@
 -- By the format.
 -- Assumes nothing.
-use mathlib.Core.Path.{subst}
 use denote.Ref.{now}
-use Rattle.promises.specs.NeededLaws.{EachFits}
-use Rattle.labels.specs.Forms.{formatFor}
-use Rattle.labels.specs.declared.Form.{Form}
-use Rattle.laying.proofs.DeskLaws.{tiled-some, listed-as, listed-F, listed-V, listed-S}
+use Rattle.laying.proofs.DeskLaws.{tiled-some, fits-in, listed-fixed, listed-variable, listed-spanned}
 use borrow.Author.Needs.{needs}
 use Rattle.laying.proofs.lay_list.Statement.{statement}
 use Rattle.laying.proofs.lay_list.Tie as tie
@@ -25,9 +21,7 @@ enum-told-2 c = search needs
 lay-records-requires : tie.Need-lay-records-requires
 lay-records-requires c κs =
     let x = c .before .before .before .before .before .before in
-    let a = x .args in
-    let e = c .before .enum-told2 .given .1 in
-    ((x .pre .1, x .pre .2), x .pre .0, (subst (λ (f : Form). EachFits (formatFor f) (a .B) (now (a .lengths))) e (x .pre .3)), x .pre .5)
+    ((x .pre .1, x .pre .2), x .pre .0, fits-in _ _ (x .args .B) (now (x .args .lengths)) (c .before .enum-told2 .given .1) (x .pre .3), x .pre .5)
 
 enum-told-3 : tie.Need-enum-told-3
 enum-told-3 c = search needs
@@ -35,48 +29,31 @@ enum-told-3 c = search needs
 lay-records-requires-2 : tie.Need-lay-records-requires-2
 lay-records-requires-2 c κs =
     let x = c .before .before .before .before .before .before in
-    let a = x .args in
-    let e = c .before .enum-told3 .given .1 in
-    ((x .pre .1, x .pre .2), x .pre .0, (subst (λ (f : Form). EachFits (formatFor f) (a .B) (now (a .lengths))) e (x .pre .3)), x .pre .5)
+    ((x .pre .1, x .pre .2), x .pre .0, fits-in _ _ (x .args .B) (now (x .args .lengths)) (c .before .enum-told3 .given .1) (x .pre .3), x .pre .5)
 
 same-length : tie.Need-same-length
 same-length c = search needs
 
 returns : tie.Need-returns
 returns c =
-    let c9 = c .before .before .before .before .before .before .before .before .before in
-    let x = c9 in
-    let a = x .args in
-    let t = c .before .before .lay-blocks in
-    let e = c .before .before .before .before .enum-told .given .1 in
-    listed-as (a .g) (now (a .image)) (t .last .1 .0) (a .p) (t .result) (a .blocked) (a .B) (a .size) (now (a .bodies)) (now (a .lengths)) (x .pre .5) (a .form) _ e
-    (listed-F (a .g) (now (a .image)) (t .last .1 .0) (a .p) (t .result) (a .blocked) (a .B) (a .size) (now (a .bodies)) (now (a .lengths)) (x .pre .5) (x .pre .4 e) (t .ensures))
+    let x = c .before .before .before .before .before .before .before .before .before in
+    listed-fixed _ _ _ _ _ _ _ _ _ _ (x .pre .5) _ (x .pre .3) (c .before .before .before .before .enum-told .given .1) (x .pre .4) (c .before .before .lay-blocks .ensures)
 
 same-length-2 : tie.Need-same-length-2
 same-length-2 c = search needs
 
 returns-2 : tie.Need-returns-2
 returns-2 c =
-    let c9 = c .before .before .before .before .before .before .before .before .before in
-    let x = c9 in
-    let a = x .args in
-    let t = c .before .before .lay-records in
-    let e = c .before .before .before .before .enum-told2 .given .1 in
-    listed-as (a .g) (now (a .image)) (t .last .1 .0) (a .p) (t .result) (a .blocked) (a .B) (a .size) (now (a .bodies)) (now (a .lengths)) (x .pre .5) (a .form) _ e
-    (listed-V (a .g) (now (a .image)) (t .last .1 .0) (a .p) (t .result) (a .blocked) (a .B) (a .size) (now (a .bodies)) (now (a .lengths)) (x .pre .5) (x .pre .1) (subst (λ (f : Form). EachFits (formatFor f) (a .B) (now (a .lengths))) e (x .pre .3)) (t .ensures))
+    let x = c .before .before .before .before .before .before .before .before .before in
+    listed-variable _ _ _ _ _ _ _ _ _ _ (x .pre .5) _ (x .pre .3) (c .before .before .before .before .enum-told2 .given .1) (x .pre .1) (c .before .before .lay-records .ensures)
 
 same-length-3 : tie.Need-same-length-3
 same-length-3 c = search needs
 
 returns-3 : tie.Need-returns-3
 returns-3 c =
-    let c9 = c .before .before .before .before .before .before .before .before .before in
-    let x = c9 in
-    let a = x .args in
-    let t = c .before .before .lay-records2 in
-    let e = c .before .before .before .before .enum-told3 .given .1 in
-    listed-as (a .g) (now (a .image)) (t .last .1 .0) (a .p) (t .result) (a .blocked) (a .B) (a .size) (now (a .bodies)) (now (a .lengths)) (x .pre .5) (a .form) _ e
-    (listed-S (a .g) (now (a .image)) (t .last .1 .0) (a .p) (t .result) (a .blocked) (a .B) (a .size) (now (a .bodies)) (now (a .lengths)) (x .pre .5) (subst (λ (f : Form). EachFits (formatFor f) (a .B) (now (a .lengths))) e (x .pre .3)) (t .ensures))
+    let x = c .before .before .before .before .before .before .before .before .before in
+    listed-spanned _ _ _ _ _ _ _ _ _ _ (x .pre .5) _ (x .pre .3) (c .before .before .before .before .enum-told3 .given .1) (c .before .before .lay-records2 .ensures)
 
 pub lay-list-spec : {M : Type 1} → statement M
 lay-list-spec =

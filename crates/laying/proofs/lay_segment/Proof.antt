@@ -1,9 +1,6 @@
 -- A control word, and part of a body.
 -- Assumes nothing.
 use Rattle.laying.proofs.DeskLaws.{segment-laid, part-length}
-use denote.Ref.{now}
-use lib.ListN.{take, drop}
-use Rattle.standard.specs.Packing.{segmentRole}
 use borrow.Author.Needs.{needs}
 use Rattle.laying.proofs.lay_segment.Statement.{statement}
 use Rattle.laying.proofs.lay_segment.Tie as tie
@@ -25,17 +22,9 @@ same-length c = search needs
 
 returns : tie.Need-returns
 returns c =
-    let c6 = c .before .before .before .before .before .before in
-    let c7 = c6 .before in
-    let c11 = c7 .before .before .before .before in
-    let x = c11 in
-    let a = x .args in
-    let r = c7 .role-of in
-    let w = c6 .put-segment in
-    let t = c .before .before .put in
-    let y = take (a .n) (drop (a .from) (now (a .bodies))) in
-    segment-laid (a .g) (now (a .image)) (w .last .1 .0) (t .last .1 .0) (a .p) (w .result) (t .result) (segmentRole (a .begun) (a .ends)) (r .result) y (a .n) (a .zeros)
-    (part-length (now (a .bodies)) (a .from) (a .n) (x .pre .1)) (r .ensures .0) (w .ensures) (t .ensures)
+    let c7 = c .before .before .before .before .before .before .before in
+    let x = c7 .before .before .before .before in
+    segment-laid _ _ _ _ _ _ _ _ _ _ _ (x .args .zeros) (part-length _ _ _ (x .pre .1)) (c7 .role-of .ensures .0) (c .before .before .before .before .before .before .put-segment .ensures) (c .before .before .put .ensures)
 
 pub lay-segment-spec : {M : Type 1} → statement M
 lay-segment-spec =

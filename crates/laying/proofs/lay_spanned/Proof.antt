@@ -32,16 +32,9 @@ same-length c = search needs
 
 returns : tie.Need-returns
 returns c =
-    let c6 = c .before .before .before .before .before .before in
-    let c7 = c6 .before in
-    let c11 = c7 .before .before .before .before in
-    let x = c11 in
-    let a = x .args in
-    let q = c6 .room-for in
-    let f = c7 .least-for in
-    let t = c .before .before .spread in
-    spanned-laid (a .g) (a .s) (now (a .image)) (q .last .1 .0) (t .last .1 .0) (a .d) (q .result) (t .result) (now (a .bodies)) (a .from) (a .n) (x .pre .3) (x .pre .1) (f .result)
-    (f .ensures .0) (q .ensures) (t .ensures)
+    let c7 = c .before .before .before .before .before .before .before in
+    let x = c7 .before .before .before .before in
+    spanned-laid _ (x .args .s) _ _ _ _ _ _ (now (x .args .bodies)) (x .args .from) (x .args .n) (x .pre .3) (x .pre .1) _ (c7 .least-for .ensures .0) (c .before .before .before .before .before .before .room-for .ensures) (c .before .before .spread .ensures)
 
 pub lay-spanned-spec : {M : Type 1} → statement M
 lay-spanned-spec =
