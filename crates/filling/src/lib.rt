@@ -44,12 +44,12 @@ fn lay_fill(body: &mut [u8], i: usize, n: usize)
 }
 
 // The filler: data, and 00 fill behind it, laid into a record's body from byte i on.
-fn pack(body: &mut [u8], i: usize, bytes: &[u8], from: usize, n: usize, zeros: usize)
+fn pack(body: &mut [u8], i: u64, bytes: &[u8], from: u64, n: u64, zeros: u64)
     requires { ⌜ (i + n + zeros ≤ length (now body)) × (from + n ≤ length (now bytes)) ⌝ }
     ensures { λ r. ⌜ now (body .exit) ≡ splice i (packed (now (bytes .entry)) from n zeros) (now (body .entry)) ⌝ }
 {
-    copy_run(bytes, from as u64, body, i as u64, n as u64);
-    lay_fill(body, i + n, zeros);
+    copy_run(bytes, from, body, i, n);
+    lay_fill(body, (i + n) as usize, zeros as usize);
 }
 
 // A record is begun: it gets the valid mark, in its kind byte.
@@ -134,14 +134,7 @@ fn put_in(g: Geometry, image: &mut [u8], p: Pen, bytes: &[u8], from: u64, n: u64
     let at = p.at;
     let a = (at - i) as usize;
     let e = a + wide16(g.P) as usize;
-    pack(
-        &mut image[a..e],
-        i as usize,
-        bytes,
-        from as usize,
-        n as usize,
-        zeros as usize,
-    );
+    pack(&mut image[a..e], i, bytes, from, n, zeros);
     Pen {
         c: c,
         i: i + n + zeros,
@@ -264,6 +257,7 @@ fn word_over(g: Geometry, image: &mut [u8], p: Pen, word: [u8; 5], from: u64) ->
     put(g, image, p, &word, from, 5 - from, 0)
 }
 
+// The control word of S, or from its second byte on that of V.
 fn put_word(g: Geometry, image: &mut [u8], p: Pen, digit: u64, size: u64, from: u64) -> Pen
     requires { ⌜ (Placed g (now image) p) × (digit < 4) × (from ≤ 1) ⌝ }
     ensures { λ r. ⌜ Lays g (now (image .entry)) p (drop from (wordS digit size)) (now (image .exit)) r ⌝ }

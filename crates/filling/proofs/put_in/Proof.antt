@@ -42,17 +42,17 @@ pack-requires c κs = search needs
 add-t13 : tie.Need-add-t13
 add-t13 c = search needs
 
-add-t23 : tie.Need-add-t23
-add-t23 c = search needs
+add-t19 : tie.Need-add-t19
+add-t19 c = search needs
 
-add-t24 : tie.Need-add-t24
-add-t24 c =
+add-t20 : tie.Need-add-t20
+add-t20 c =
     let x = c .before .before .before .before .before .before .before .before .args in
     let p = c .before .before .before .before .before .before .before .before .pre in
     omega (arith, pen-room (x .g) (now (x .image)) (x .p) (p .0))
 
-add-t25 : tie.Need-add-t25
-add-t25 c =
+add-t21 : tie.Need-add-t21
+add-t21 c =
     let x = c .before .before .before .before .before .before .before .before .args in
     let p = c .before .before .before .before .before .before .before .before .pre in
     omega (arith, pen-room (x .g) (now (x .image)) (x .p) (p .0))
@@ -82,8 +82,8 @@ put-in-spec =
     part-pack-end
     pack-requires
     add-t13
-    add-t23
-    add-t24
-    add-t25
+    add-t19
+    add-t20
+    add-t21
     same-length
     returns)
