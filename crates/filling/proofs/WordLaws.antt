@@ -32,7 +32,7 @@ store-behind : (o : ℕ) (x : List ℕ) (y : ℕ) (s t : List ℕ) → o + lengt
 store-behind o x y s t h e =
     ap (λ (u : List ℕ). set u (o + length x) y) e ∙ splice-more o x y s h
 
--- the word from byte `from` on, stored in turn, or put as data
+-- the last bytes of the word, stored in turn, or put as data
 module _ (w : List ℕ) (five : length w ≡ 5) where
   last-four : drop 1 w ≡ (getD w 1 0 ∷ getD w 2 0 ∷ getD w 3 0 ∷ getD w 4 0 ∷ [])
   last-four =
@@ -48,20 +48,20 @@ module _ (w : List ℕ) (five : length w ≡ 5) where
       (store-behind o (a ∷ b ∷ []) c s _ (omega arith) (store-behind o (a ∷ []) b s _ (omega arith) (set-splice o a s (omega arith))))
       ∙ ap (λ (t : List ℕ). splice o t s) (sym last-four)
 
-  -- the first byte stored, and four behind it
-  pub word-laid : (from o : ℕ) (s t : List ℕ) → from ≡ 0 → o + 5 ≤ length s → t ≡ splice (o + 1) (drop 1 w) (set s o (getD w 0 0)) → t ≡ splice o (drop from w) s
-  word-laid from o s t z h e =
+  -- the first byte stored, and four behind it: where all five are asked
+  pub word-laid : (n o : ℕ) (s t : List ℕ) → n ≡ 5 → o + 5 ≤ length s → t ≡ splice (o + 1) (drop 1 w) (set s o (getD w 0 0)) → t ≡ splice o (drop (5 - n) w) s
+  word-laid n o s t z h e =
       e
       ∙ ap (splice (o + 1) (drop 1 w)) (set-splice o (getD w 0 0) s (omega arith))
       ∙ splice-join o (getD w 0 0 ∷ []) (drop 1 w) s (omega arith)
       ∙ ap (λ (x : List ℕ). splice o x s) (sym (drop-cons w 0 0 (omega arith)))
-      ∙ ap (λ (k : ℕ). splice o (drop k w) s) (sym z)
+      ∙ ap (λ (k : ℕ). splice o (drop (5 - k) w) s) (sym z)
 
-  pub from-length : (from : ℕ) → length (drop from w) ≡ 5 - from
-  from-length from = length-drop from w ∙ ap (λ (n : ℕ). n - from) five
+  pub last-length : (n : ℕ) → n ≤ 5 → length (drop (5 - n) w) ≡ n
+  last-length n h = length-drop (5 - n) w ∙ omega arith
 
-  pub word-length : (from o : ℕ) (s t : List ℕ) → from ≡ 0 → o + 5 ≤ length s → t ≡ splice (o + 1) (drop 1 w) (set s o (getD w 0 0)) → length t ≡ length s
-  word-length from o s t z h e = ap length (word-laid from o s t z h e) ∙ splice-length o (drop from w) s (omega (arith, from-length from))
+  pub word-length : (n o : ℕ) (s t : List ℕ) → n ≡ 5 → o + 5 ≤ length s → t ≡ splice (o + 1) (drop 1 w) (set s o (getD w 0 0)) → length t ≡ length s
+  word-length n o s t z h e = ap length (word-laid n o s t z h e) ∙ splice-length o (drop (5 - n) w) s (omega (arith, last-length n (omega arith)))
 
-  pub word-packed : (from : ℕ) → packed w from (5 - from) 0 ≡ drop from w
-  word-packed from = append-nil (take (5 - from) (drop from w)) ∙ take-all (5 - from) (drop from w) (omega (arith, from-length from))
+  pub word-packed : (n : ℕ) → n ≤ 5 → packed w (5 - n) n 0 ≡ drop (5 - n) w
+  word-packed n h = append-nil (take n (drop (5 - n) w)) ∙ take-all n (drop (5 - n) w) (omega (arith, last-length n h))

@@ -13,7 +13,7 @@ ghost use mathlib.Core.Path.{_≡_};
 ghost use mathlib.Core.Bool.{true, cond};
 ghost use lib.Dec.{leb};
 ghost use mathlib.Core.List.{List, _∷_};
-ghost use Prim.Native.Nat.{ℕ, _+_, _/_, _<_, _≤_};
+ghost use Prim.Native.Nat.{ℕ, _+_, _-_, _/_, _<_, _≤_};
 ghost use lib.ListN.{length, take, drop};
 ghost use Rattle.standard.specs.Characters.{digitOf, padded};
 ghost use Rattle.standard.specs.Layout.{kindOffset};
@@ -193,7 +193,7 @@ fn digit_at(n: u64, worth: u64) -> u8
     (48 + n / worth % 10) as u8
 }
 
-// A control word: that of S, "`0`-`3`, four digits". That of V, "four digits", is the same from its second byte on.
+// A control word: that of S, "`0`-`3`, four digits". That of V, "four digits", is the last four bytes of it.
 fn word_of(digit: u64, size: u64) -> [u8; 5]
     requires { ⌜ digit < 4 ⌝ }
     ensures { λ r. ⌜ r ≡ wordS digit size ⌝ }
@@ -218,12 +218,12 @@ fn lay_four(body: &mut [u8], i: usize, word: [u8; 5])
     body[i + 3] = word[4];
 }
 
-// The word from its first byte or from its second on.
-fn lay_word(body: &mut [u8], i: usize, word: [u8; 5], from: u64)
-    requires { ⌜ (from ≤ 1) × (i + 5 ≤ length (now body) + from) ⌝ }
-    ensures { λ r. ⌜ now (body .exit) ≡ splice i (drop from word) (now (body .entry)) ⌝ }
+// The last n bytes of a word: all five, or four.
+fn lay_word(body: &mut [u8], i: usize, word: [u8; 5], n: u64)
+    requires { ⌜ (4 ≤ n) × (n ≤ 5) × (i + n ≤ length (now body)) ⌝ }
+    ensures { λ r. ⌜ now (body .exit) ≡ splice i (drop (5 - n) word) (now (body .entry)) ⌝ }
 {
-    if from == 1 {
+    if n == 4 {
         lay_four(body, i, word);
         return;
     }
@@ -232,42 +232,42 @@ fn lay_word(body: &mut [u8], i: usize, word: [u8; 5], from: u64)
 }
 
 // A word that has room in the record: its body is lent, as to the filler. Most words have room, and these need no run of bytes.
-fn word_in(g: Geometry, image: &mut [u8], p: Pen, word: [u8; 5], from: u64) -> Pen
-    requires { ⌜ (Placed g (now image) p) × (from ≤ 1) × (p .i + 5 ≤ g .P + from) ⌝ }
-    ensures { λ r. ⌜ Lays g (now (image .entry)) p (drop from word) (now (image .exit)) r ⌝ }
+fn word_in(g: Geometry, image: &mut [u8], p: Pen, word: [u8; 5], n: u64) -> Pen
+    requires { ⌜ (Placed g (now image) p) × (4 ≤ n) × (n ≤ 5) × (p .i + n ≤ g .P) ⌝ }
+    ensures { λ r. ⌜ Lays g (now (image .entry)) p (drop (5 - n) word) (now (image .exit)) r ⌝ }
 {
     let c = p.c;
     let i = p.i;
     let at = p.at;
     let a = (at - i) as usize;
     let e = a + wide16(g.P) as usize;
-    lay_word(&mut image[a..e], i as usize, word, from);
+    lay_word(&mut image[a..e], i as usize, word, n);
     Pen {
         c: c,
-        i: i + 5 - from,
-        at: at + 5 - from,
+        i: i + n,
+        at: at + n,
     }
 }
 
 // A word that goes on over records, as data does.
-fn word_over(g: Geometry, image: &mut [u8], p: Pen, word: [u8; 5], from: u64) -> Pen
-    requires { ⌜ (Placed g (now image) p) × (from ≤ 1) ⌝ }
-    ensures { λ r. ⌜ Lays g (now (image .entry)) p (drop from word) (now (image .exit)) r ⌝ }
+fn word_over(g: Geometry, image: &mut [u8], p: Pen, word: [u8; 5], n: u64) -> Pen
+    requires { ⌜ (Placed g (now image) p) × (n ≤ 5) ⌝ }
+    ensures { λ r. ⌜ Lays g (now (image .entry)) p (drop (5 - n) word) (now (image .exit)) r ⌝ }
 {
-    put(g, image, p, &word, from, 5 - from, 0)
+    put(g, image, p, &word, 5 - n, n, 0)
 }
 
-// The control word of S, or from its second byte on that of V.
-fn put_word(g: Geometry, image: &mut [u8], p: Pen, digit: u64, size: u64, from: u64) -> Pen
-    requires { ⌜ (Placed g (now image) p) × (digit < 4) × (from ≤ 1) ⌝ }
-    ensures { λ r. ⌜ Lays g (now (image .entry)) p (drop from (wordS digit size)) (now (image .exit)) r ⌝ }
+// The control word of S, or the last four bytes of it, that of V.
+fn put_word(g: Geometry, image: &mut [u8], p: Pen, digit: u64, size: u64, n: u64) -> Pen
+    requires { ⌜ (Placed g (now image) p) × (digit < 4) × (4 ≤ n) × (n ≤ 5) ⌝ }
+    ensures { λ r. ⌜ Lays g (now (image .entry)) p (drop (5 - n) (wordS digit size)) (now (image .exit)) r ⌝ }
 {
     let word = word_of(digit, size);
     let i = p.i;
-    if i + 5 <= wide16(g.P) + from {
-        return word_in(g, image, p, word, from);
+    if i + n <= wide16(g.P) {
+        return word_in(g, image, p, word, n);
     }
-    word_over(g, image, p, word, from)
+    word_over(g, image, p, word, n)
 }
 
 // The control word of V: "four digits".
@@ -275,7 +275,7 @@ pub fn put_length(g: Geometry, image: &mut [u8], p: Pen, size: u64) -> Pen
     requires { ⌜ Placed g (now image) p ⌝ }
     ensures { λ r. ⌜ Lays g (now (image .entry)) p (padded 4 size) (now (image .exit)) r ⌝ }
 {
-    put_word(g, image, p, 0, size, 1)
+    put_word(g, image, p, 0, size, 4)
 }
 
 // The control word of S: "`0`-`3`, four digits".
@@ -283,5 +283,5 @@ pub fn put_segment(g: Geometry, image: &mut [u8], p: Pen, digit: u64, size: u64)
     requires { ⌜ (Placed g (now image) p) × (digit < 4) ⌝ }
     ensures { λ r. ⌜ Lays g (now (image .entry)) p (wordS digit size) (now (image .exit)) r ⌝ }
 {
-    put_word(g, image, p, digit, size, 0)
+    put_word(g, image, p, digit, size, 5)
 }

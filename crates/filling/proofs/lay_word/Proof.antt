@@ -15,7 +15,7 @@ same-length : tie.Need-same-length
 same-length c = search needs
 
 returns : tie.Need-returns
-returns c = cc
+returns c = rw (c .before .before .before .before .if1 .taken) (c .before .before .lay-four .ensures)
 
 array-read-body : tie.Need-array-read-body
 array-read-body c = search needs
@@ -32,12 +32,12 @@ lay-four-requires-2 c κs = simp length-set (omega arith)
 same-length-2 : tie.Need-same-length-2
 same-length-2 c =
     let x = c .before .before .before .before .before .before .args in
-    word-length (x .t3) (omega arith) (x .from) (x .i) (now (x .body)) (c .before .before .lay-four2 .last .0) (omega arith) (omega arith) (c .before .before .lay-four2 .ensures)
+    word-length (x .t3) (omega arith) (x .n) (x .i) (now (x .body)) (c .before .before .lay-four2 .last .0) (omega arith) (omega arith) (c .before .before .lay-four2 .ensures)
 
 returns-2 : tie.Need-returns-2
 returns-2 c =
     let x = c .before .before .before .before .before .before .args in
-    word-laid (x .t3) (omega arith) (x .from) (x .i) (now (x .body)) _ (omega arith) (omega arith) (c .before .before .lay-four2 .ensures)
+    word-laid (x .t3) (omega arith) (x .n) (x .i) (now (x .body)) _ (omega arith) (omega arith) (c .before .before .lay-four2 .ensures)
 
 pub lay-word-spec : {M : Type 1} → statement M
 lay-word-spec =

@@ -13,9 +13,6 @@ add-if1 c = search needs
 wide16-requires : tie.Need-wide16-requires
 wide16-requires c κs = search needs
 
-add-if1-2 : tie.Need-add-if1-2
-add-if1-2 c = search needs
-
 word-in-requires : tie.Need-word-in-requires
 word-in-requires c κs = search needs
 
@@ -41,7 +38,6 @@ put-word-spec =
     word-of-requires
     add-if1
     wide16-requires
-    add-if1-2
     word-in-requires
     same-length
     returns

@@ -7,7 +7,7 @@ use native.Mathlib.Omega.{arith}
 use denote.Ref.{now}
 use borrow.Author.Needs.{needs}
 use Rattle.filling.proofs.PenLaws.{pen-room, part-lays}
-use Rattle.filling.proofs.WordLaws.{from-length}
+use Rattle.filling.proofs.WordLaws.{last-length}
 use Rattle.filling.proofs.word_in.Statement.{statement}
 use Rattle.filling.proofs.word_in.Tie as tie
 
@@ -39,17 +39,11 @@ lay-word-requires c κs = search needs
 add-t11 : tie.Need-add-t11
 add-t11 c = search needs
 
-sub-t18 : tie.Need-sub-t18
-sub-t18 c = search needs
-
-add-t19 : tie.Need-add-t19
-add-t19 c =
+add-t18 : tie.Need-add-t18
+add-t18 c =
     let c7 = c .before .before .before .before .before .before .before in
     let x = c7 .args in
     omega (arith, pen-room (x .g) (now (x .image)) (x .p) (c7 .pre .0))
-
-sub-t20 : tie.Need-sub-t20
-sub-t20 c = search needs
 
 same-length : tie.Need-same-length
 same-length c = search needs
@@ -60,8 +54,8 @@ returns c =
     let c7 = c4 .before .before .before in
     let x = c7 .args in
     let p = x .p in
-    let l = from-length (x .word) (omega arith) (x .from) in
-    part-lays (x .g) (now (x .image)) p (drop (x .from) (x .word)) (c7 .pre .0) (omega (arith, l)) (c4 .wide16 .result) (c .before .before .lay-word .last .0) (p .i + 5 - x .from) (p .at + 5 - x .from) (c4 .wide16 .ensures .0) (c .before .before .lay-word .ensures) (omega (arith, l)) (omega (arith, l))
+    let l = last-length (x .word) (omega arith) (x .n) (omega arith) in
+    part-lays (x .g) (now (x .image)) p (drop (5 - x .n) (x .word)) (c7 .pre .0) (omega (arith, l)) (c4 .wide16 .result) (c .before .before .lay-word .last .0) (p .i + x .n) (p .at + x .n) (c4 .wide16 .ensures .0) (c .before .before .lay-word .ensures) (omega (arith, l)) (omega (arith, l))
 
 pub word-in-spec : {M : Type 1} → statement M
 word-in-spec =
@@ -75,8 +69,6 @@ word-in-spec =
     part-lay-word-end
     lay-word-requires
     add-t11
-    sub-t18
-    add-t19
-    sub-t20
+    add-t18
     same-length
     returns)

@@ -19,7 +19,7 @@ same-length : tie.Need-same-length
 same-length c = search needs
 
 returns : tie.Need-returns
-returns c = let x = c .before .before .before .before .before .before .args in rw (word-packed (x .t4) (omega arith) (x .from)) at (c .before .before .put .ensures)
+returns c = let x = c .before .before .before .before .before .before .args in rw (word-packed (x .t4) (omega arith) (x .n) (omega arith)) at (c .before .before .put .ensures)
 
 pub word-over-spec : {M : Type 1} → statement M
 word-over-spec = tie.close (tie.spec slice-aggregate-put sub-put put-requires same-length returns)
