@@ -24,8 +24,8 @@ use standard::Geometry;
 use standard::wide;
 ghost use mathlib.Core.Path.{_≡_};
 ghost use mathlib.Core.Bool.{true, _&&_, _||_};
-ghost use Prim.Native.Nat.{_≤_};
-ghost use lib.ListN.{length};
+ghost use Prim.Native.Nat.{_+_, _-_, _≤_};
+ghost use lib.ListN.{length, take, drop};
 ghost use Rattle.standard.specs.Characters.{bytes, field, at, same, inASet, spaces};
 ghost use Rattle.standard.specs.Addresses.{rank};
 ghost use Rattle.standard.specs.Labels.{level, nameOf, blockLength, startOf, recordLength, rule6, rule23, rule29, rule35, rule40, rule54, rule58, rule63, rule75, spacesOrDate};
@@ -69,6 +69,14 @@ pub fn name_right(h: &[u8], c: u64) -> bool
         return short_name(h);
     }
     all_of(Class::Aset, &h[5..22])
+}
+
+// "29-33 start": its rank, if it is an address.
+pub fn start_in(g: Geometry, h: &[u8]) -> Perhaps
+    requires { ⌜ length (now h) ≡ 128 ⌝ }
+    ensures { λ r. ⌜ r ≡ perhaps (rule29 g (now (h .entry))) (rank g (startOf (now (h .entry)))) ⌝ }
+{
+    address_rank(g, &h[28..33])
 }
 
 // "35-39 end, not before start."
@@ -135,11 +143,12 @@ pub fn blocked_right(c: u64, f: u64, b: u64) -> bool
     one_of_2(b, 32, 66) & (!one_of_1(f, 83) | (b == 66)) & (!(c == 32) | (b == 32))
 }
 
-// The number of a field that may be blank, if it is blank or has digits.
-fn blank_or(blank: u64, f: &[u8]) -> Perhaps
-    requires { ⌜ length (now f) ≤ 9 ⌝ }
-    ensures { λ r. ⌜ r ≡ blankOr blank (now (f .entry)) ⌝ }
+// The number of a field that may be blank, if it is blank or has digits. It stands from a on and ends before e.
+fn blank_or(blank: u64, h: &[u8], a: usize, e: usize) -> Perhaps
+    requires { ⌜ (length (now h) ≡ 128) × (a ≤ e) × (e ≤ 128) × (e ≤ a + 9) ⌝ }
+    ensures { λ r. ⌜ r ≡ blankOr blank (take (e - a) (drop a (now (h .entry)))) ⌝ }
 {
+    let f = &h[a..e];
     if all_of(Class::Space, f) {
         return Perhaps::Number(blank);
     }
@@ -164,7 +173,7 @@ pub fn record_in(g: Geometry, h: &[u8], x: Seen, b: u64, right63: bool) -> Perha
     requires { ⌜ (length (now h) ≡ 128) × Held g (now h) x × (b ≡ at (now h) 63) × (right63 ≡ rule63 (now h)) ⌝ }
     ensures { λ r. ⌜ r ≡ perhaps (rule54 g (now (h .entry))) (recordLength (now (h .entry))) ⌝ }
 {
-    let read = blank_or(x.block, &h[53..57]);
+    let read = blank_or(x.block, h, 53, 57);
     let Perhaps::Number(r) = read else {
         return Perhaps::Nothing;
     };
@@ -185,15 +194,15 @@ pub fn unused_right(g: Geometry, h: &[u8], x: Seen, b: u64, right63: bool, r: u6
     requires { ⌜ (length (now h) ≡ 128) × Held g (now h) x × (b ≡ at (now h) 63) × (right63 ≡ rule63 (now h)) × (r ≡ recordLength (now h)) × (rule54 g (now h) ≡ true) ⌝ }
     ensures { λ r′. ⌜ r′ ≡ rule58 g (now (h .entry)) ⌝ }
 {
-    let read = blank_or(0, &h[57..62]);
+    let read = blank_or(0, h, 57, 62);
     let Perhaps::Number(u) = read else {
         return false;
     };
     unused_fits(x.format, right63, b == 66, x.block, r, u)
 }
 
-// "48-53 spaces or YYMMDD (month 01-12, day 01-31)"
-pub fn spaces_or_date(f: &[u8]) -> bool
+// "spaces or YYMMDD (month 01-12, day 01-31)"
+fn spaces_or_date(f: &[u8]) -> bool
     requires { ⌜ length (now f) ≡ 6 ⌝ }
     ensures { λ r. ⌜ r ≡ spacesOrDate (now (f .entry)) ⌝ }
 {
@@ -207,11 +216,20 @@ pub fn spaces_or_date(f: &[u8]) -> bool
     in_range(1, 12, number_2(&f[2..4])) & in_range(1, 31, number_2(&f[4..6]))
 }
 
-// "67-72 the same, or 999999."
-pub fn expiry_right(f: &[u8]) -> bool
-    requires { ⌜ length (now f) ≡ 6 ⌝ }
-    ensures { λ r. ⌜ r ≡ (spacesOrDate (now (f .entry)) || same (now (f .entry)) (bytes "999999")) ⌝ }
+// "48-53 spaces or YYMMDD"
+pub fn date_right(h: &[u8]) -> bool
+    requires { ⌜ length (now h) ≡ 128 ⌝ }
+    ensures { λ r. ⌜ r ≡ spacesOrDate (field (now (h .entry)) 48 53) ⌝ }
 {
+    spaces_or_date(&h[47..53])
+}
+
+// "67-72 the same, or 999999."
+pub fn expiry_right(h: &[u8]) -> bool
+    requires { ⌜ length (now h) ≡ 128 ⌝ }
+    ensures { λ r. ⌜ r ≡ (spacesOrDate (field (now (h .entry)) 67 72) || same (field (now (h .entry)) 67 72) (bytes "999999")) ⌝ }
+{
+    let f = &h[66..72];
     if spaces_or_date(f) {
         return true;
     }

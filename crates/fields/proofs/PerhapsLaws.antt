@@ -1,9 +1,10 @@
 -- A number, where there is one: what an answer says of the test, and what the test says of the answer.
 -- Assumes nothing.
 use Prim.Native.Nat.{ℕ}
-use mathlib.Core.Path.{_≡_, refl}
+use mathlib.Core.Path.{_≡_, refl, sym, _∙_}
 use mathlib.Core.Bool.{Bool, true, false}
 use Rattle.fields.specs.Numbers.{perhaps}
+use Rattle.fields.specs.declared.Perhaps.{Perhaps}
 use Rattle.fields.specs.declared.Perhaps.the-variants.{Nothing, Number}
 
 pub test-holds : (t : Bool) (n m : ℕ) → perhaps t n ≡ Number m → t ≡ true
@@ -28,3 +29,10 @@ is-number t n m h e = simp (h, e)
 pub is-nothing : (t : Bool) (n : ℕ) → t ≡ false → Nothing ≡ perhaps t n
 unfolding perhaps
 is-nothing t n h = simp h
+
+-- the same of an answer x that a function gave and that was found to be a number
+pub read-holds : {x : Perhaps} {k : ℕ} (t : Bool) (n : ℕ) → x ≡ Number k → x ≡ perhaps t n → t ≡ true
+read-holds {k = k} t n e q = test-holds t n k (sym q ∙ e)
+
+pub read-number : {x : Perhaps} {k : ℕ} (t : Bool) (n : ℕ) → x ≡ Number k → x ≡ perhaps t n → k ≡ n
+read-number {k = k} t n e q = number-is t n k (sym q ∙ e)

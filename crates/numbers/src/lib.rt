@@ -21,10 +21,11 @@ use standard::digit;
 use standard::wide;
 ghost use mathlib.Core.Path.{_≡_};
 ghost use mathlib.Core.Bool.{_&&_, _||_, not};
-ghost use Prim.Native.Nat.{_+_, _*_, _^_, _<_, _≤_};
-ghost use lib.ListN.{length, drop};
+ghost use mathlib.Core.List.{[], _∷_};
+ghost use Prim.Native.Nat.{_+_, _-_, _*_, _^_, _<_, _≤_};
+ghost use lib.ListN.{length, getD, take, drop};
 ghost use lib.Dec.{ltb, leb};
-ghost use Rattle.standard.specs.Characters.{between, spaces, hex};
+ghost use Rattle.standard.specs.Characters.{bytes, between, oneOf, same, field, inASet, spaces, hex};
 ghost use Rattle.standard.specs.Rules.{lowestFault};
 ghost use Rattle.standard.specs.Volume.{vol1Rules, hexBetween, volumeK};
 ghost use Rattle.standard.specs.Defects.{isCylinder, cylinderIn, ermapRules, defectIn};
@@ -45,24 +46,26 @@ fn hex_digit_between(low: u64, high: u64, f: &[u8]) -> bool
     is_hex(wide(f[0])) & in_range(low, high, hex_1(f))
 }
 
-// The rows of the numbers, from 77 on.
-fn vol1_numbers_fault(v: &[u8]) -> u64
-    requires { ⌜ length (now v) ≡ 128 ⌝ }
-    ensures { λ r. ⌜ r ≡ lowestFault (drop 6 (vol1Rules (now (v .entry)))) ⌝ }
+// The same of two digits of a label, which stand from a on and end before e.
+fn hex_in(v: &[u8], a: usize, e: usize, low: u64, high: u64) -> bool
+    requires { ⌜ (length (now v) ≡ 128) × (e ≤ 128) × (e ≡ a + 2) ⌝ }
+    ensures { λ r. ⌜ r ≡ hexBetween low high (take (e - a) (drop a (now (v .entry)))) ⌝ }
 {
-    if !spaces_or_number(1, 13, &v[76..78]) {
-        return 77;
-    }
-    if !one_of_1(wide(v[78]), 51) {
-        return 79;
-    }
-    if !hex_between(1, 96, &v[80..82]) {
+    hex_between(low, high, &v[a..e])
+}
+
+// "81-82 hex L, 1-96; 83-84 hex I, 8-26; 85-86 hex D, 1-26; 89 hex S, 1-2."
+fn vol1_fault_from_81(v: &[u8]) -> u64
+    requires { ⌜ length (now v) ≡ 128 ⌝ }
+    ensures { λ r. ⌜ r ≡ lowestFault (drop 8 (vol1Rules (now (v .entry)))) ⌝ }
+{
+    if !hex_in(v, 80, 82, 1, 96) {
         return 81;
     }
-    if !hex_between(8, 26, &v[82..84]) {
+    if !hex_in(v, 82, 84, 8, 26) {
         return 83;
     }
-    if !hex_between(1, 26, &v[84..86]) {
+    if !hex_in(v, 84, 86, 1, 26) {
         return 85;
     }
     if !hex_digit_between(1, 2, &v[88..89]) {
@@ -71,30 +74,68 @@ fn vol1_numbers_fault(v: &[u8]) -> u64
     0
 }
 
-// VOL1: the lowest position at fault, 0 for none.
-pub fn vol1_fault(v: &[u8]) -> u64
-    requires { ⌜ length (now v) ≡ 128 ⌝ }
-    ensures { λ r. ⌜ r ≡ lowestFault (vol1Rules (now (v .entry))) ⌝ }
+// The one character that may stand there.
+fn char_is(v: &[u8], i: usize, x: u64) -> bool
+    requires { ⌜ i < length (now v) ⌝ }
+    ensures { λ r. ⌜ r ≡ oneOf (x ∷ []) (getD (now (v .entry)) i 0) ⌝ }
 {
-    if !same_as(&v[0..4], b"VOL1") {
-        return 1;
-    }
-    if !all_of(Class::Aset, &v[4..10]) {
-        return 5;
-    }
-    if !in_a_set(wide(v[10])) {
-        return 11;
-    }
-    if !all_of(Class::Aset, &v[37..51]) {
-        return 38;
-    }
-    if !one_of_1(wide(v[71]), 65) {
+    one_of_1(wide(v[i]), x)
+}
+
+// "72 `A`; 76 space, 1, 2, 3 for P = 128, 256, 512, 1024; 77-78 spaces or 01-13; 79 `3`"
+fn vol1_fault_from_72(v: &[u8]) -> u64
+    requires { ⌜ length (now v) ≡ 128 ⌝ }
+    ensures { λ r. ⌜ r ≡ lowestFault (drop 4 (vol1Rules (now (v .entry)))) ⌝ }
+{
+    if !char_is(v, 71, 65) {
         return 72;
     }
     if !one_of_4(wide(v[75]), 32, 49, 50, 51) {
         return 76;
     }
-    vol1_numbers_fault(v)
+    if !spaces_or_number(1, 13, &v[76..78]) {
+        return 77;
+    }
+    if !char_is(v, 78, 51) {
+        return 79;
+    }
+    vol1_fault_from_81(v)
+}
+
+// "1-4 `VOL1`"
+fn is_vol1(v: &[u8]) -> bool
+    requires { ⌜ length (now v) ≡ 128 ⌝ }
+    ensures { λ r. ⌜ r ≡ same (field (now (v .entry)) 1 4) (bytes "VOL1") ⌝ }
+{
+    same_as(&v[0..4], b"VOL1")
+}
+
+// A field in the a-set, which stands from a on and ends before e.
+fn a_set_in(v: &[u8], a: usize, e: usize) -> bool
+    requires { ⌜ (length (now v) ≡ 128) × (a ≤ e) × (e ≤ 128) ⌝ }
+    ensures { λ r. ⌜ r ≡ inASet (take (e - a) (drop a (now (v .entry)))) ⌝ }
+{
+    all_of(Class::Aset, &v[a..e])
+}
+
+// VOL1: the lowest position at fault, 0 for none. "1-4 `VOL1`; 5-10, 11, 38-51 in the a-set"
+pub fn vol1_fault(v: &[u8]) -> u64
+    requires { ⌜ length (now v) ≡ 128 ⌝ }
+    ensures { λ r. ⌜ r ≡ lowestFault (vol1Rules (now (v .entry))) ⌝ }
+{
+    if !is_vol1(v) {
+        return 1;
+    }
+    if !a_set_in(v, 4, 10) {
+        return 5;
+    }
+    if !in_a_set(wide(v[10])) {
+        return 11;
+    }
+    if !a_set_in(v, 37, 51) {
+        return 38;
+    }
+    vol1_fault_from_72(v)
 }
 
 // "76 space, 1, 2, 3": k.
@@ -196,18 +237,27 @@ fn second_right(l: u64, e: &[u8], f: &[u8]) -> bool
     all_of(Class::Space, f) | (is_cylinder(f) & !all_of(Class::Space, e) & (c < d) & (below <= l))
 }
 
+// "1-5 `ERMAP`"
+fn is_ermap(e: &[u8]) -> bool
+    requires { ⌜ length (now e) ≡ 128 ⌝ }
+    ensures { λ r. ⌜ r ≡ same (field (now (e .entry)) 1 5) (bytes "ERMAP") ⌝ }
+{
+    same_as(&e[0..5], b"ERMAP")
+}
+
 // ERMAP on a volume of l cylinders: the lowest position at fault, 0 for none.
 pub fn ermap_fault(l: u64, e: &[u8]) -> u64
     requires { ⌜ length (now e) ≡ 128 ⌝ }
     ensures { λ r. ⌜ r ≡ lowestFault (ermapRules l (now (e .entry))) ⌝ }
 {
-    if !same_as(&e[0..5], b"ERMAP") {
+    if !is_ermap(e) {
         return 1;
     }
-    if !first_right(l, &e[6..9]) {
+    let d1 = &e[6..9];
+    if !first_right(l, d1) {
         return 7;
     }
-    if !second_right(l, &e[6..9], &e[10..13]) {
+    if !second_right(l, d1, &e[10..13]) {
         return 11;
     }
     0

@@ -8,16 +8,16 @@ use checks::Seen;
 use checks::block_in;
 use checks::blocked_right;
 use checks::data_end_right;
+use checks::date_right;
 use checks::end_right;
 use checks::expiry_right;
 use checks::format_right;
 use checks::is_other;
 use checks::name_right;
 use checks::record_in;
-use checks::spaces_or_date;
+use checks::start_in;
 use checks::unused_right;
 use fields::Perhaps;
-use fields::address_rank;
 use fields::in_a_set;
 use fields::one_of_2;
 use fields::one_of_3;
@@ -28,7 +28,10 @@ use standard::Geometry;
 use standard::wide;
 ghost use mathlib.Core.Path.{_≡_};
 ghost use mathlib.Core.Bool.{true};
-ghost use lib.ListN.{length, drop};
+ghost use mathlib.Core.List.{[], _∷_};
+ghost use Prim.Native.Nat.{_<_};
+ghost use lib.ListN.{length, getD, drop};
+ghost use Rattle.standard.specs.Characters.{oneOf, aSet};
 ghost use Rattle.standard.specs.Addresses.{rank};
 ghost use Rattle.standard.specs.Rules.{lowestFault};
 ghost use Rattle.standard.specs.Labels.{level, startOf, rule29, rule44, labelFault};
@@ -56,7 +59,7 @@ fn other_fault(g: Geometry, h: &[u8]) -> u64
     requires { ⌜ length (now h) ≡ 128 ⌝ }
     ensures { λ r. ⌜ r ≡ lowestFault (otherRows g (now (h .entry))) ⌝ }
 {
-    let read = address_rank(g, &h[28..33]);
+    let read = start_in(g, h);
     let Perhaps::Number(start) = read else {
         return 29;
     };
@@ -74,13 +77,21 @@ fn known_fault(g: Geometry, h: &[u8], c: u64, right44: bool) -> u64
     if !name_right(h, c) {
         return 6;
     }
+    fault_from_23(g, h, c, right44)
+}
+
+// 23 reads 40, whose verdict is made first.
+fn fault_from_23(g: Geometry, h: &[u8], c: u64, right44: bool) -> u64
+    requires { ⌜ (length (now h) ≡ 128) × (c ≡ level (now h)) × (right44 ≡ rule44 (now h)) ⌝ }
+    ensures { λ r. ⌜ r ≡ lowestFault (drop 1 (knownRows g (now (h .entry)))) ⌝ }
+{
     let f = wide(h[39]);
     let right40 = format_right(c, f);
     let sized = block_in(g, h, c, f, right40);
     let Perhaps::Number(block) = sized else {
         return 23;
     };
-    let read = address_rank(g, &h[28..33]);
+    let read = start_in(g, h);
     let Perhaps::Number(start) = read else {
         return 29;
     };
@@ -103,30 +114,53 @@ fn known_fault(g: Geometry, h: &[u8], c: u64, right44: bool) -> u64
     )
 }
 
+// "41 space, B", "43 space, P", "64 space, S"
+fn space_or(h: &[u8], i: usize, x: u64) -> bool
+    requires { ⌜ i < length (now h) ⌝ }
+    ensures { λ r. ⌜ r ≡ oneOf (32 ∷ x ∷ []) (getD (now (h .entry)) i 0) ⌝ }
+{
+    one_of_2(wide(h[i]), 32, x)
+}
+
+// "42 a-set", "73 a-set"
+fn a_set_at(h: &[u8], i: usize) -> bool
+    requires { ⌜ i < length (now h) ⌝ }
+    ensures { λ r. ⌜ r ≡ aSet (getD (now (h .entry)) i 0) ⌝ }
+{
+    in_a_set(wide(h[i]))
+}
+
 fn fault_from_41(g: Geometry, h: &[u8], x: Seen) -> u64
     requires { ⌜ (length (now h) ≡ 128) × Held g (now h) x ⌝ }
     ensures { λ r. ⌜ r ≡ lowestFault (drop 5 (knownRows g (now (h .entry)))) ⌝ }
 {
-    if !one_of_2(wide(h[40]), 32, 66) {
+    if !space_or(h, 40, 66) {
         return 41;
     }
-    if !in_a_set(wide(h[41])) {
+    if !a_set_at(h, 41) {
         return 42;
     }
-    if !one_of_2(wide(h[42]), 32, 80) {
+    if !space_or(h, 42, 80) {
         return 43;
     }
     let right44 = x.right44;
     if !right44 {
         return 44;
     }
+    fault_from_45(g, h, x)
+}
+
+fn fault_from_45(g: Geometry, h: &[u8], x: Seen) -> u64
+    requires { ⌜ (length (now h) ≡ 128) × Held g (now h) x ⌝ }
+    ensures { λ r. ⌜ r ≡ lowestFault (drop 9 (knownRows g (now (h .entry)))) ⌝ }
+{
     if !one_of_3(wide(h[44]), 32, 67, 76) {
         return 45;
     }
     if !spaces_or_number(1, 99, &h[45..47]) {
         return 46;
     }
-    if !spaces_or_date(&h[47..53]) {
+    if !date_right(h) {
         return 48;
     }
     fault_from_54(g, h, x)
@@ -156,13 +190,13 @@ fn fault_from_64(g: Geometry, h: &[u8], start: u64) -> u64
     requires { ⌜ (length (now h) ≡ 128) × (start ≡ rank g (startOf (now h))) × (rule29 g (now h) ≡ true) ⌝ }
     ensures { λ r. ⌜ r ≡ lowestFault (drop 15 (knownRows g (now (h .entry)))) ⌝ }
 {
-    if !one_of_2(wide(h[63]), 32, 83) {
+    if !space_or(h, 63, 83) {
         return 64;
     }
-    if !expiry_right(&h[66..72]) {
+    if !expiry_right(h) {
         return 67;
     }
-    if !in_a_set(wide(h[72])) {
+    if !a_set_at(h, 72) {
         return 73;
     }
     if !data_end_right(g, h, start) {

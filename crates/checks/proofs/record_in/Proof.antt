@@ -9,15 +9,6 @@ use Rattle.checks.proofs.ExitLaws.{blank-no, blank-yes, record-blank}
 use Rattle.checks.proofs.record_in.Statement.{statement}
 use Rattle.checks.proofs.record_in.Tie as tie
 
-sub-blank-or : tie.Need-sub-blank-or
-sub-blank-or c = search needs
-
-part-blank-or-start : tie.Need-part-blank-or-start
-part-blank-or-start c = search needs
-
-part-blank-or-end : tie.Need-part-blank-or-end
-part-blank-or-end c = search needs
-
 blank-or-requires : tie.Need-blank-or-requires
 blank-or-requires c κs = search needs
 
@@ -36,22 +27,19 @@ record-fits-requires c κs = search needs
 returns-2 : tie.Need-returns-2
 returns-2 c =
     let c1 = c .before .before .before in
-    let c2 = c1 .before .before .before .before .before in
+    let c2 = c1 .before .before .before .before in
     is-nothing _ _ (sym (record-is _ _ _ _ _ _ _ (c2 .pre .1) (c2 .pre .2) (c2 .pre .3) (record-blank _ _ _ (c2 .pre .1 .block-is) (sym (c1 .before .before .blank-or .ensures) ∙ c1 .read .given .1)) (blank-yes _ _ _ (sym (c1 .before .before .blank-or .ensures) ∙ c1 .read .given .1)) (c .before .record-fits .ensures)) ∙ not-true _ (c .if1 .taken))
 
 returns-3 : tie.Need-returns-3
 returns-3 c =
     let c1 = c .before .before .before in
-    let c2 = c1 .before .before .before .before .before in
+    let c2 = c1 .before .before .before .before in
     is-number _ _ _ (sym (record-is _ _ _ _ _ _ _ (c2 .pre .1) (c2 .pre .2) (c2 .pre .3) (record-blank _ _ _ (c2 .pre .1 .block-is) (sym (c1 .before .before .blank-or .ensures) ∙ c1 .read .given .1)) (blank-yes _ _ _ (sym (c1 .before .before .blank-or .ensures) ∙ c1 .read .given .1)) (c .before .record-fits .ensures)) ∙ not-false _ (c .if1 .left)) (record-blank _ _ _ (c2 .pre .1 .block-is) (sym (c1 .before .before .blank-or .ensures) ∙ c1 .read .given .1))
 
 pub record-in-spec : {M : Type 1} → statement M
 record-in-spec =
     tie.close
     (tie.spec
-    sub-blank-or
-    part-blank-or-start
-    part-blank-or-end
     blank-or-requires
     enum-known-read
     enum-told

@@ -7,15 +7,6 @@ use Rattle.checks.proofs.ExitLaws.{blank-no, blank-yes, unused-blank}
 use Rattle.checks.proofs.unused_right.Statement.{statement}
 use Rattle.checks.proofs.unused_right.Tie as tie
 
-sub-blank-or : tie.Need-sub-blank-or
-sub-blank-or c = search needs
-
-part-blank-or-start : tie.Need-part-blank-or-start
-part-blank-or-start c = search needs
-
-part-blank-or-end : tie.Need-part-blank-or-end
-part-blank-or-end c = search needs
-
 blank-or-requires : tie.Need-blank-or-requires
 blank-or-requires c κs = search needs
 
@@ -34,19 +25,10 @@ unused-fits-requires c κs = search needs
 returns-2 : tie.Need-returns-2
 returns-2 c =
     let c1 = c .before .before .before .before in
-    let c2 = c1 .before .before .before in
+    let c2 = c1 .before .before in
     unused-is _ _ _ _ _ _ _ (c2 .pre .1) (c2 .pre .2) (c2 .pre .3) (c2 .pre .4) _ (blank-yes _ _ _ (sym (c1 .blank-or .ensures) ∙ c .before .before .read .given .1)) (c2 .pre .5) (unused-blank _ _ (sym (c1 .blank-or .ensures) ∙ c .before .before .read .given .1)) (c .unused-fits .ensures)
 
 pub unused-right-spec : {M : Type 1} → statement M
 unused-right-spec =
     tie.close
-    (tie.spec
-    sub-blank-or
-    part-blank-or-start
-    part-blank-or-end
-    blank-or-requires
-    enum-known-read
-    enum-told
-    returns
-    unused-fits-requires
-    returns-2)
+    (tie.spec blank-or-requires enum-known-read enum-told returns unused-fits-requires returns-2)

@@ -4,7 +4,7 @@ use mathlib.Core.Path.{ap, sym, _∙_}
 use borrow.Author.Needs.{needs}
 use Rattle.standard.specs.Characters.{aSet}
 use Rattle.standard.specs.Labels.{rule44, hdr1Rules, labelFault}
-use Rattle.fields.proofs.RowLaws.{fault-here, fault-next}
+use Rattle.fields.proofs.RowLaws.{fault-next, rows}
 use Rattle.rules.specs.Tables.{known-table, other-table}
 use Rattle.checks.proofs.PartLaws.{other-is}
 use Rattle.rules.proofs.label_fault.Statement.{statement}
@@ -15,7 +15,7 @@ is-hdr1-requires c κs = search needs
 
 returns : tie.Need-returns
 unfolding labelFault hdr1Rules
-returns c = fault-here _ _ _ (c .before .is-hdr1 .ensures) (c .if1 .taken)
+returns c = search rows
 
 level-of-requires : tie.Need-level-of-requires
 level-of-requires c κs = search needs
@@ -34,7 +34,7 @@ unfolding labelFault hdr1Rules rule44
 returns-2 c =
     let c1 = c .before .before .before in
     let c2 = c1 .before .before .before in
-    fault-next _ _ _ _ (c2 .is-hdr1 .ensures) (c1 .before .before .if1 .left)
+    fault-next _ _ _ _ (c1 .before .before .if1 .left) (c2 .is-hdr1 .ensures)
     (c .other-fault .ensures ∙ sym (other-table _ _ (sym (other-is _ _ 0 _ _ (c1 .before .level-of .ensures .0) (c1 .in-a-set .ensures ∙ ap aSet (c1 .before .level-of .ensures .0)) (c .before .before .is-other .ensures)) ∙ c .before .if2 .taken)))
 
 known-fault-requires : tie.Need-known-fault-requires
@@ -46,7 +46,7 @@ unfolding labelFault hdr1Rules rule44
 returns-3 c =
     let c1 = c .before .before .before in
     let c2 = c1 .before .before .before in
-    fault-next _ _ _ _ (c2 .is-hdr1 .ensures) (c1 .before .before .if1 .left)
+    fault-next _ _ _ _ (c1 .before .before .if1 .left) (c2 .is-hdr1 .ensures)
     (c .known-fault .ensures ∙ sym (known-table _ _ (sym (other-is _ _ 0 _ _ (c1 .before .level-of .ensures .0) (c1 .in-a-set .ensures ∙ ap aSet (c1 .before .level-of .ensures .0)) (c .before .before .is-other .ensures)) ∙ c .before .if2 .left)))
 
 pub label-fault-spec : {M : Type 1} → statement M
