@@ -11,13 +11,13 @@ use Rattle.standard.specs.declared.Place.{Place}
 use Rattle.standard.specs.declared.Answer.{Answer}
 use Rattle.standard.specs.declared.Answer.the-variants.{Record, Gap, End}
 
-pub refusal-packed : (r : Refusal) (n a b c : ℕ) → n ≡ r .number → a ≡ most 32 (r .first) → b ≡ most 20 (r .second) → c ≡ most 4 (r .third)
-    → n * 2 ^ 56 + a * 2 ^ 24 + b * 2 ^ 4 + c ≡ packedRefusal r
+pub refusal-packed : (r : Refusal) (n a b c : ℕ) → n ≡ r .number * 2 ^ 56 → a ≡ most 32 (r .first) → b ≡ most 20 (r .second) → c ≡ most 4 (r .third)
+    → n + a * 2 ^ 24 + b * 2 ^ 4 + c ≡ packedRefusal r
 unfolding packedRefusal
 refusal-packed r n a b c hn ha hb hc = rw (hn, ha, hb, hc)
 
-pub volume-packed : (j : Judged) (g : Geometry) (l i d k s a b : ℕ) → j ≡ Volume g → l ≡ g .L → i ≡ g .I → d ≡ g .D → k ≡ g .k → s ≡ g .S → a ≡ g .d1 → b ≡ g .d2
-    → l + i * 2 ^ 8 + d * 2 ^ 16 + k * 2 ^ 24 + s * 2 ^ 28 + a * 2 ^ 32 + b * 2 ^ 40 ≡ packedJudged j
+pub volume-packed : (j : Judged) (g : Geometry) (l i d k s a b : ℕ) → j ≡ Volume g → l ≡ g .L → i ≡ g .I * 2 ^ 8 → d ≡ g .D * 2 ^ 16 → k ≡ g .k * 2 ^ 24 → s ≡ g .S * 2 ^ 28
+    → a ≡ g .d1 * 2 ^ 32 → b ≡ g .d2 * 2 ^ 40 → l + i + d + k + s + a + b ≡ packedJudged j
 unfolding packedJudged
 volume-packed j g l i d k s a b hj hl hi hd hk hs ha hb = rw (hj, hl, hi, hd, hk, hs, ha, hb)
 

@@ -10,7 +10,7 @@ use standard::Refusal;
 use standard::Written;
 ghost use mathlib.Core.Path.{_≡_};
 ghost use mathlib.Core.Bool.{cond};
-ghost use Prim.Native.Nat.{_-_, _<_, _^_};
+ghost use Prim.Native.Nat.{_-_, _*_, _<_, _≤_, _^_};
 ghost use lib.Dec.{ltb};
 ghost use Rattle.standard.specs.Packed.{packedRefusal, packedJudged, packedFound, packedCounted, packedPlace, packedAnswer, packedWritten, packedCreated};
 ghost use Rattle.packing.specs.Room.{FoundFits, PlaceFits, AnswerFits, CreatedFits};
@@ -50,11 +50,19 @@ fn most(n: u64, limit: u64) -> u64
     limit - 1
 }
 
+// A byte's number from a bit on.
+fn at_bit(b: u8, bit: u64) -> u64
+    requires { ⌜ bit ≤ 2 ^ 56 ⌝ }
+    ensures { λ r. ⌜ (r ≡ b * bit) × (r ≤ 255 * bit) ⌝ }
+{
+    standard::wide(b) * bit
+}
+
 // "A refusal has its first place in bits 24-55, its second in bits 4-23, its third in bits 0-3": and its number in the top byte.
 fn pack_refusal(r: Refusal) -> u64
     ensures { λ p. ⌜ p ≡ packedRefusal r ⌝ }
 {
-    standard::wide(r.number) * BIT_56
+    at_bit(r.number, BIT_56)
         + most(r.first, BIT_32) * BIT_24
         + most(r.second, BIT_20) * BIT_4
         + most(r.third, BIT_4)
@@ -68,12 +76,12 @@ pub fn pack_judged(j: Judged) -> u64
         Judged::Refused(r) => pack_refusal(r),
         Judged::Volume(g) => {
             standard::wide(g.L)
-                + standard::wide(g.I) * BIT_8
-                + standard::wide(g.D) * BIT_16
-                + standard::wide(g.k) * BIT_24
-                + standard::wide(g.S) * BIT_28
-                + standard::wide(g.d1) * BIT_32
-                + standard::wide(g.d2) * BIT_40
+                + at_bit(g.I, BIT_8)
+                + at_bit(g.D, BIT_16)
+                + at_bit(g.k, BIT_24)
+                + at_bit(g.S, BIT_28)
+                + at_bit(g.d1, BIT_32)
+                + at_bit(g.d2, BIT_40)
         }
     }
 }

@@ -5,17 +5,14 @@ use Rattle.packing.proofs.Laws.{refusal-packed}
 use Rattle.packing.proofs.pack_refusal.Statement.{statement}
 use Rattle.packing.proofs.pack_refusal.Tie as tie
 
-wide-requires : tie.Need-wide-requires
-wide-requires c κs = search needs
-
-mul-result : tie.Need-mul-result
-mul-result c = search needs
+at-bit-requires : tie.Need-at-bit-requires
+at-bit-requires c κs = search needs
 
 most-requires : tie.Need-most-requires
 most-requires c κs = search needs
 
-mul-result-2 : tie.Need-mul-result-2
-mul-result-2 c = search needs
+mul-result : tie.Need-mul-result
+mul-result c = search needs
 
 add-result : tie.Need-add-result
 add-result c = search needs
@@ -23,8 +20,8 @@ add-result c = search needs
 most-requires-2 : tie.Need-most-requires-2
 most-requires-2 c κs = search needs
 
-mul-result-3 : tie.Need-mul-result-3
-mul-result-3 c = search needs
+mul-result-2 : tie.Need-mul-result-2
+mul-result-2 c = search needs
 
 add-result-2 : tie.Need-add-result-2
 add-result-2 c = search needs
@@ -36,19 +33,18 @@ add-result-3 : tie.Need-add-result-3
 add-result-3 c = search needs
 
 returns : tie.Need-returns
-returns c = refusal-packed _ _ _ _ _ (c .before .before .before .wide .ensures .0) (c .before .before .most .ensures .0) (c .before .most2 .ensures .0) (c .most3 .ensures .0)
+returns c = search refusal-packed
 
 pub pack-refusal-spec : {M : Type 1} → statement M
 pack-refusal-spec =
     tie.close
     (tie.spec
-    wide-requires
-    mul-result
+    at-bit-requires
     most-requires
-    mul-result-2
+    mul-result
     add-result
     most-requires-2
-    mul-result-3
+    mul-result-2
     add-result-2
     most-requires-3
     add-result-3
