@@ -17,7 +17,7 @@ ghost use mathlib.Core.Bool.{_&&_, _||_, not};
 ghost use Prim.Native.Nat.{_<_};
 ghost use lib.ListN.{length};
 ghost use Rattle.standard.specs.Characters.{bytes, field, same};
-ghost use Rattle.standard.specs.Addresses.{rank};
+ghost use Rattle.standard.specs.Addresses.{addressIn, rank};
 ghost use Rattle.standard.specs.Labels.{level, knownLevel, nameOf, blockLength, startOf, endOf, recordLength, unusedCount, isBlocked, dataEndOf, formatOf};
 ghost use Rattle.labels.specs.Forms.{formIn};
 
@@ -74,35 +74,33 @@ pub fn end_of(h: &[u8]) -> Address
     Address::spelled(&h[34..39])
 }
 
-fn data_end_of(h: &[u8]) -> Address
-    requires { ⌜ length (now h) ≡ 128 ⌝ }
-    ensures { λ r. ⌜ (r ≡ dataEndOf (now (h .entry))) × (r .cylinder < 3000) × (r .side < 256) × (r .sector < 3000) ⌝ }
+fn spelled_rank(g: Geometry, f: &[u8]) -> u64
+    ensures { λ r. ⌜ (r ≡ rank g (addressIn (now (f .entry)))) × (r < 4294967296) ⌝ }
 {
-    Address::spelled(&h[74..79])
+    rank_of(g, Address::spelled(f))
 }
 
 pub fn start_rank(g: Geometry, h: &[u8]) -> u64
     requires { ⌜ length (now h) ≡ 128 ⌝ }
     ensures { λ r. ⌜ (r ≡ rank g (startOf (now (h .entry)))) × (r < 4294967296) ⌝ }
 {
-    rank_of(g, start_of(h))
+    spelled_rank(g, &h[28..33])
 }
 
 pub fn end_rank(g: Geometry, h: &[u8]) -> u64
     requires { ⌜ length (now h) ≡ 128 ⌝ }
     ensures { λ r. ⌜ (r ≡ rank g (endOf (now (h .entry)))) × (r < 4294967296) ⌝ }
 {
-    rank_of(g, end_of(h))
+    spelled_rank(g, &h[34..39])
 }
 
 pub fn data_end_rank(g: Geometry, h: &[u8]) -> u64
     requires { ⌜ length (now h) ≡ 128 ⌝ }
     ensures { λ r. ⌜ (r ≡ rank g (dataEndOf (now (h .entry)))) × (r < 4294967296) ⌝ }
 {
-    rank_of(g, data_end_of(h))
+    spelled_rank(g, &h[74..79])
 }
 
-// "40 space or F (fixed), V, S"
 // "40 space or F (fixed), V, S": the format of a label.
 pub fn form_of(h: &[u8]) -> Form
     requires { ⌜ length (now h) ≡ 128 ⌝ }
@@ -139,10 +137,11 @@ pub fn record_length(h: &[u8]) -> u64
     requires { ⌜ length (now h) ≡ 128 ⌝ }
     ensures { λ r. ⌜ (r ≡ recordLength (now (h .entry))) × (r < 10000000) ⌝ }
 {
-    if all_of(Class::Space, &h[53..57]) {
+    let f = &h[53..57];
+    if all_of(Class::Space, f) {
         return block_length(h);
     }
-    number_4(&h[53..57])
+    number_4(f)
 }
 
 // "58-62 unused count U, spaces meaning 0"
@@ -150,8 +149,9 @@ pub fn unused_count(h: &[u8]) -> u64
     requires { ⌜ length (now h) ≡ 128 ⌝ }
     ensures { λ r. ⌜ (r ≡ unusedCount (now (h .entry))) × (r < 10000000) ⌝ }
 {
-    if all_of(Class::Space, &h[57..62]) {
+    let f = &h[57..62];
+    if all_of(Class::Space, f) {
         return 0;
     }
-    number_5(&h[57..62])
+    number_5(f)
 }

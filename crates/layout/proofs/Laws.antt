@@ -65,9 +65,9 @@ slot-first-is g slot image r a e f = e ∙ ap (λ (m : ℕ). getD image m 0) f
 pub part-of : (s : List ℕ) (a : ℕ) → take (a + 128 - a) (drop a s) ≡ take 128 (drop a s)
 part-of s a = let n : a + 128 - a ≡ 128 = omega arith in ap (λ (m : ℕ). take m (drop a s)) n
 
-pub label-part : (g : Geometry) (s : List ℕ) (slot a : ℕ) → a ≡ labelOffset g slot → take (a + 128 - a) (drop a s) ≡ labelAt g s slot
+pub label-part : (g : Geometry) (s : List ℕ) (slot a : ℕ) → a ≡ labelOffset g slot → take 128 (drop a s) ≡ labelAt g s slot
 unfolding labelAt
-label-part g s slot a e = part-of s a ∙ ap (λ (m : ℕ). take 128 (drop m s)) e
+label-part g s slot a e = ap (λ (m : ℕ). take 128 (drop m s)) e
 
 -- the skip of a defective cylinder
 pub skip-yes : (d c : ℕ) → 0 < d → d ≤ c → c + 1 ≡ skipOne d c

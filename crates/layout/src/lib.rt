@@ -13,7 +13,8 @@ use standard::wide;
 ghost use mathlib.Core.Path.{_≡_};
 ghost use mathlib.Core.Bool.{true};
 ghost use Prim.Native.Nat.{_+_, _-_, _*_, _<_, _≤_};
-ghost use lib.ListN.{length};
+ghost use lib.ListN.{length, getD, take, drop};
+ghost use lib.Dec.{eqb};
 ghost use Rattle.standard.specs.Layout.{indexSectors, kAt, kindOffset, bodyOffset, imageLength, kindAt, firstByte, incorrectMark, checkFailed, indexKind, indexBody, slotCount, slotOrdinal, labelOffset, labelAt};
 ghost use Rattle.standard.specs.Defects.{skipOne, physical};
 ghost use Rattle.standard.specs.Addresses.{legal, ordinal, stepped};
@@ -66,22 +67,36 @@ fn kind_offset(g: Geometry, n: u64) -> u64
     first * 129 + times16(n - first, wide16(g.P) + 1)
 }
 
+// The byte at an offset, and the 128 from one on.
+fn byte_of(image: &[u8], at: u64) -> u64
+    requires { ⌜ at < length (now image) ⌝ }
+    ensures { λ r. ⌜ (r ≡ getD (now (image .entry)) at 0) × (r < 256) ⌝ }
+{
+    wide(image[at as usize])
+}
+
+fn body_of(image: &[u8], at: u64) -> &[u8]
+    requires { ⌜ at + 128 ≤ length (now image) ⌝ }
+    ensures { λ r. ⌜ (now r ≡ take 128 (drop at (now (image .entry)))) × (length (now r) ≡ 128) ⌝ }
+{
+    let a = at as usize;
+    let e = a + 128;
+    &image[a..e]
+}
+
 // ERMAP and VOL1, which are read before the volume's numbers are known: the kind and the body of a sector of index side 0.
 pub fn index_kind(image: &[u8], sector: u64) -> u64
     requires { ⌜ (903 ≤ length (now image)) × (1 ≤ sector) × (sector ≤ 7) ⌝ }
     ensures { λ r. ⌜ (r ≡ indexKind (now (image .entry)) sector) × (r < 256) ⌝ }
 {
-    let at = ((sector - 1) * 129) as usize;
-    wide(image[at])
+    byte_of(image, (sector - 1) * 129)
 }
 
 pub fn index_body(image: &[u8], sector: u64) -> &[u8]
     requires { ⌜ (903 ≤ length (now image)) × (1 ≤ sector) × (sector ≤ 7) ⌝ }
     ensures { λ r. ⌜ (now r ≡ indexBody (now (image .entry)) sector) × (length (now r) ≡ 128) ⌝ }
 {
-    let a = ((sector - 1) * 129 + 1) as usize;
-    let e = a + 128;
-    &image[a..e]
+    body_of(image, (sector - 1) * 129 + 1)
 }
 
 // A slot's sector, which is in the index cylinder: where its kind stands and where its label begins, the label itself, and the byte of kind and the first byte.
@@ -103,17 +118,14 @@ pub fn label_at(g: Geometry, image: &[u8], slot: u64) -> &[u8]
     requires { ⌜ Room g (now image) slot ⌝ }
     ensures { λ r. ⌜ (now r ≡ labelAt g (now (image .entry)) slot) × (length (now r) ≡ 128) ⌝ }
 {
-    let a = label_offset(g, slot) as usize;
-    let e = a + 128;
-    &image[a..e]
+    body_of(image, label_offset(g, slot))
 }
 
 pub fn slot_kind(g: Geometry, image: &[u8], slot: u64) -> u64
     requires { ⌜ Room g (now image) slot ⌝ }
     ensures { λ r. ⌜ (r ≡ kindAt g (now (image .entry)) (slotOrdinal slot)) × (r < 256) ⌝ }
 {
-    let at = slot_offset(g, slot) as usize;
-    wide(image[at])
+    byte_of(image, slot_offset(g, slot))
 }
 
 // "Cylinder 0 uses k = 0": the kind that a mark is there, 0 for the valid one and 16 for the incorrect one.
@@ -128,8 +140,7 @@ pub fn slot_first(g: Geometry, image: &[u8], slot: u64) -> u64
     requires { ⌜ Room g (now image) slot ⌝ }
     ensures { λ r. ⌜ (r ≡ firstByte g (now (image .entry)) (slotOrdinal slot)) × (r < 256) ⌝ }
 {
-    let at = label_offset(g, slot) as usize;
-    wide(image[at])
+    byte_of(image, label_offset(g, slot))
 }
 
 // "q is c, or c+1 if d1 is present and d1 ≤ c; the physical cylinder is q, or q+1 if d2 is present and d2 ≤ q."
@@ -174,22 +185,29 @@ pub fn kind_of(g: Geometry, a: Address) -> u64
     kind_offset(g, ordinal_of(g, a))
 }
 
+// Whether a record's kind, which stands at `at`, is a mark with the k of VOL1.
+fn has_mark(g: Geometry, image: &[u8], at: u64, mark: u64) -> bool
+    requires { ⌜ mark < 256 ⌝ }
+    ensures { λ r. ⌜ r ≡ eqb (getD (now (image .entry)) at 0) (mark + g .k) ⌝ }
+{
+    let k = mark + wide(g.k);
+    byte_at(image, at as usize) == k
+}
+
 // A record whose kind is known to stand at `at`, for walks that come from one to the next: its mark, and its first byte. (`a` says which record it is.)
 // "Kind k: valid data mark. Kind 16+k: incorrect-data mark. Kind 32+k: check failed, body not trusted."
 pub fn incorrect_mark(g: Geometry, image: &[u8], a: Address, at: u64) -> bool
     requires { ⌜ (legal g a ≡ true) × (at ≡ kindOffset g (ordinal g a)) ⌝ }
     ensures { λ r. ⌜ r ≡ incorrectMark g (now (image .entry)) (ordinal g a) ⌝ }
 {
-    let k = 16 + wide(g.k);
-    byte_at(image, at as usize) == k
+    has_mark(g, image, at, 16)
 }
 
 pub fn check_failed(g: Geometry, image: &[u8], a: Address, at: u64) -> bool
     requires { ⌜ (legal g a ≡ true) × (at ≡ kindOffset g (ordinal g a)) ⌝ }
     ensures { λ r. ⌜ r ≡ checkFailed g (now (image .entry)) (ordinal g a) ⌝ }
 {
-    let k = 32 + wide(g.k);
-    byte_at(image, at as usize) == k
+    has_mark(g, image, at, 32)
 }
 
 pub fn first_byte(g: Geometry, image: &[u8], a: Address, at: u64) -> u64

@@ -6,14 +6,14 @@ use Rattle.labels.proofs.BlankLaws.{four-small, record-same, record-own
 use Rattle.labels.proofs.record_length.Statement.{statement}
 use Rattle.labels.proofs.record_length.Tie as tie
 
-sub-all-of : tie.Need-sub-all-of
-sub-all-of c = search needs
+sub-f : tie.Need-sub-f
+sub-f c = search needs
 
-part-all-of-start : tie.Need-part-all-of-start
-part-all-of-start c = search needs
+part-f-start : tie.Need-part-f-start
+part-f-start c = search needs
 
-part-all-of-end : tie.Need-part-all-of-end
-part-all-of-end c = search needs
+part-f-end : tie.Need-part-f-end
+part-f-end c = search needs
 
 all-of-requires : tie.Need-all-of-requires
 all-of-requires c κs = search needs
@@ -24,33 +24,21 @@ block-length-requires c κs = search needs
 returns : tie.Need-returns
 returns c = (record-same _ _ (sym (c .before .before .all-of .ensures) ∙ c .before .if1 .taken) (c .block-length .ensures .0), c .block-length .ensures .1)
 
-sub-number-4 : tie.Need-sub-number-4
-sub-number-4 c = search needs
-
-part-number-4-start : tie.Need-part-number-4-start
-part-number-4-start c = search needs
-
-part-number-4-end : tie.Need-part-number-4-end
-part-number-4-end c = search needs
-
 number-4-requires : tie.Need-number-4-requires
 number-4-requires c κs = search needs
 
 returns-2 : tie.Need-returns-2
-returns-2 c = (record-own _ _ (sym (c .before .before .before .all-of .ensures) ∙ c .before .before .if1 .left) (c .number-4 .ensures .0), four-small _ (c .number-4 .ensures .1))
+returns-2 c = (record-own _ _ (sym (c .before .before .all-of .ensures) ∙ c .before .if1 .left) (c .number-4 .ensures .0), four-small _ (c .number-4 .ensures .1))
 
 pub record-length-spec : {M : Type 1} → statement M
 record-length-spec =
     tie.close
     (tie.spec
-    sub-all-of
-    part-all-of-start
-    part-all-of-end
+    sub-f
+    part-f-start
+    part-f-end
     all-of-requires
     block-length-requires
     returns
-    sub-number-4
-    part-number-4-start
-    part-number-4-end
     number-4-requires
     returns-2)
