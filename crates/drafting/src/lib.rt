@@ -6,11 +6,20 @@ use rules::label_fault;
 use standard::Address;
 use standard::Geometry;
 ghost use mathlib.Core.Path.{_≡_};
-ghost use Prim.Native.Nat.{_<_};
-ghost use lib.ListN.{length};
+ghost use Prim.Native.Nat.{_+_, _-_, _<_, _≤_};
+ghost use lib.ListN.{length, take, drop};
+ghost use Rattle.standard.specs.Writing.{splice};
 ghost use Rattle.standard.specs.Creating.{proposed, proposalFault};
 ghost use Rattle.promises.specs.AddedRows.{added};
 ghost use Rattle.promises.specs.Drafts.{givenLaid, extentLaid};
+
+// Bytes of those wanted, from a on and before e, over the label's from an index on.
+fn lay_field(label: &mut [u8], at: usize, wanted: &[u8], a: usize, e: usize)
+    requires { ⌜ (a ≤ e) × (e ≤ length (now wanted)) × (at + (e - a) ≤ length (now label)) ⌝ }
+    ensures { λ r. ⌜ now (label .exit) ≡ splice at (take (e - a) (drop a (now (wanted .entry)))) (now (label .entry)) ⌝ }
+{
+    lay_at(label, at, &wanted[a..e]);
+}
 
 // "Creating takes the 29 bytes of label fields 6-22, 23-27, 40, 44, 54-57, 63"
 fn lay_given(label: &mut [u8], wanted: &[u8])
@@ -18,11 +27,11 @@ fn lay_given(label: &mut [u8], wanted: &[u8])
     ensures { λ r. ⌜ now (label .exit) ≡ givenLaid (now (wanted .entry)) (now (label .entry)) ⌝ }
 {
     lay_at(label, 0, b"HDR1");
-    lay_at(label, 5, &wanted[0..22]);
-    lay_at(label, 39, &wanted[22..23]);
-    lay_at(label, 43, &wanted[23..24]);
-    lay_at(label, 53, &wanted[24..28]);
-    lay_at(label, 62, &wanted[28..29]);
+    lay_field(label, 5, wanted, 0, 22);
+    lay_field(label, 39, wanted, 22, 23);
+    lay_field(label, 43, wanted, 23, 24);
+    lay_field(label, 53, wanted, 24, 28);
+    lay_field(label, 62, wanted, 28, 29);
 }
 
 // "the data end is the start"

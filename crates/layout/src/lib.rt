@@ -84,19 +84,27 @@ fn body_of(image: &[u8], at: u64) -> &[u8]
     &image[a..e]
 }
 
+// Where the kind of a sector of index side 0 stands.
+fn index_offset(sector: u64) -> u64
+    requires { ⌜ (1 ≤ sector) × (sector ≤ 7) ⌝ }
+    ensures { λ r. ⌜ r ≡ (sector - 1) * 129 ⌝ }
+{
+    (sector - 1) * 129
+}
+
 // ERMAP and VOL1, which are read before the volume's numbers are known: the kind and the body of a sector of index side 0.
 pub fn index_kind(image: &[u8], sector: u64) -> u64
     requires { ⌜ (903 ≤ length (now image)) × (1 ≤ sector) × (sector ≤ 7) ⌝ }
     ensures { λ r. ⌜ (r ≡ indexKind (now (image .entry)) sector) × (r < 256) ⌝ }
 {
-    byte_of(image, (sector - 1) * 129)
+    byte_of(image, index_offset(sector))
 }
 
 pub fn index_body(image: &[u8], sector: u64) -> &[u8]
     requires { ⌜ (903 ≤ length (now image)) × (1 ≤ sector) × (sector ≤ 7) ⌝ }
     ensures { λ r. ⌜ (now r ≡ indexBody (now (image .entry)) sector) × (length (now r) ≡ 128) ⌝ }
 {
-    body_of(image, (sector - 1) * 129 + 1)
+    body_of(image, index_offset(sector) + 1)
 }
 
 // A slot's sector, which is in the index cylinder: where its kind stands and where its label begins, the label itself, and the byte of kind and the first byte.

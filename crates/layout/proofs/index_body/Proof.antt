@@ -5,11 +5,8 @@ use Rattle.standard.specs.Layout.{indexBody}
 use Rattle.layout.proofs.index_body.Statement.{statement}
 use Rattle.layout.proofs.index_body.Tie as tie
 
-sub-body-of : tie.Need-sub-body-of
-sub-body-of c = search needs
-
-mul-body-of : tie.Need-mul-body-of
-mul-body-of c = search needs
+index-offset-requires : tie.Need-index-offset-requires
+index-offset-requires c κs = search needs
 
 add-body-of : tie.Need-add-body-of
 add-body-of c = search needs
@@ -19,7 +16,7 @@ body-of-requires c κs = search needs
 
 returns : tie.Need-returns
 unfolding indexBody
-returns c = search needs
+returns c = (cc, c .body-of .ensures .1)
 
 pub index-body-spec : {M : Type 1} → statement M
-index-body-spec = tie.close (tie.spec sub-body-of mul-body-of add-body-of body-of-requires returns)
+index-body-spec = tie.close (tie.spec index-offset-requires add-body-of body-of-requires returns)

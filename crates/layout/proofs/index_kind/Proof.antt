@@ -5,18 +5,15 @@ use Rattle.standard.specs.Layout.{indexKind}
 use Rattle.layout.proofs.index_kind.Statement.{statement}
 use Rattle.layout.proofs.index_kind.Tie as tie
 
-sub-byte-of : tie.Need-sub-byte-of
-sub-byte-of c = search needs
-
-mul-byte-of : tie.Need-mul-byte-of
-mul-byte-of c = search needs
+index-offset-requires : tie.Need-index-offset-requires
+index-offset-requires c κs = search needs
 
 byte-of-requires : tie.Need-byte-of-requires
 byte-of-requires c κs = search needs
 
 returns : tie.Need-returns
 unfolding indexKind
-returns c = search needs
+returns c = (cc, c .byte-of .ensures .1)
 
 pub index-kind-spec : {M : Type 1} → statement M
-index-kind-spec = tie.close (tie.spec sub-byte-of mul-byte-of byte-of-requires returns)
+index-kind-spec = tie.close (tie.spec index-offset-requires byte-of-requires returns)
