@@ -25,25 +25,32 @@ ghost use mathlib.Core.List.{[], _∷_};
 ghost use Prim.Native.Nat.{_+_, _-_, _*_, _^_, _<_, _≤_};
 ghost use lib.ListN.{length, getD, take, drop};
 ghost use lib.Dec.{ltb, leb};
-ghost use Rattle.standard.specs.Characters.{bytes, between, oneOf, same, field, inASet, spaces, hex};
+ghost use Rattle.standard.specs.Characters.{bytes, between, oneOf, same, field, inASet, spaces, isHex, hex};
 ghost use Rattle.standard.specs.Rules.{lowestFault};
 ghost use Rattle.standard.specs.Volume.{vol1Rules, hexBetween, volumeK};
 ghost use Rattle.standard.specs.Defects.{isCylinder, cylinderIn, ermapRules, defectIn};
 ghost use Rattle.numbers.specs.Numbers.{bare, defected};
+
+fn hex_at(f: &[u8], i: usize) -> bool
+    requires { ⌜ i < length (now f) ⌝ }
+    ensures { λ r. ⌜ r ≡ isHex (getD (now (f .entry)) i 0) ⌝ }
+{
+    is_hex(wide(f[i]))
+}
 
 // A field of hex digits whose number is in a range: of two digits, of one.
 fn hex_between(low: u64, high: u64, f: &[u8]) -> bool
     requires { ⌜ length (now f) ≡ 2 ⌝ }
     ensures { λ r. ⌜ r ≡ hexBetween low high (now (f .entry)) ⌝ }
 {
-    is_hex(wide(f[0])) & is_hex(wide(f[1])) & in_range(low, high, hex_2(f))
+    hex_at(f, 0) & hex_at(f, 1) & in_range(low, high, hex_2(f))
 }
 
 fn hex_digit_between(low: u64, high: u64, f: &[u8]) -> bool
     requires { ⌜ length (now f) ≡ 1 ⌝ }
     ensures { λ r. ⌜ r ≡ hexBetween low high (now (f .entry)) ⌝ }
 {
-    is_hex(wide(f[0])) & in_range(low, high, hex_1(f))
+    hex_at(f, 0) & in_range(low, high, hex_1(f))
 }
 
 // The same of two digits of a label, which stand from a on and end before e.

@@ -7,14 +7,8 @@ use Rattle.fields.proofs.NumberLaws.{each-1}
 use Rattle.numbers.proofs.hex_digit_between.Statement.{statement}
 use Rattle.numbers.proofs.hex_digit_between.Tie as tie
 
-shared-slice-read-wide : tie.Need-shared-slice-read-wide
-shared-slice-read-wide c = search needs
-
-wide-requires : tie.Need-wide-requires
-wide-requires c κs = search needs
-
-is-hex-requires : tie.Need-is-hex-requires
-is-hex-requires c κs = search needs
+hex-at-requires : tie.Need-hex-at-requires
+hex-at-requires c κs = search needs
 
 hex-1-requires : tie.Need-hex-1-requires
 hex-1-requires c κs = search needs
@@ -23,17 +17,8 @@ in-range-requires : tie.Need-in-range-requires
 in-range-requires c κs = search needs
 
 returns : tie.Need-returns
-returns c =
-    let c1 = c .before .before .before .before .before .before in
-    cc (each-1 isHex (now (c1 .args .f)) (search needs))
+returns c = cc (each-1 isHex (now (c .before .before .before .before .args .f)) (search needs))
 
 pub hex-digit-between-spec : {M : Type 1} → statement M
 hex-digit-between-spec =
-    tie.close
-    (tie.spec
-    shared-slice-read-wide
-    wide-requires
-    is-hex-requires
-    hex-1-requires
-    in-range-requires
-    returns)
+    tie.close (tie.spec hex-at-requires hex-1-requires in-range-requires returns)
