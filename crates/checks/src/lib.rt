@@ -121,6 +121,15 @@ fn block_fits(g: Geometry, c: u64, f: u64, right40: bool, b: u64) -> bool
         & (!right40 | (!long | (b <= 9999)))
 }
 
+fn number_if(test: bool, n: u64) -> Perhaps
+    ensures { λ r. ⌜ r ≡ perhaps test n ⌝ }
+{
+    if test {
+        return Perhaps::Number(n);
+    }
+    Perhaps::Nothing
+}
+
 // "23-27 block length B": the number, if the field is right. A part that reads 40 is not applied while 40 is at fault.
 pub fn block_in(g: Geometry, h: &[u8], c: u64, f: u64, right40: bool) -> Perhaps
     requires { ⌜ (length (now h) ≡ 128) × (c ≡ level (now h)) × (f ≡ at (now h) 40) × (right40 ≡ rule40 (now h)) ⌝ }
@@ -130,10 +139,7 @@ pub fn block_in(g: Geometry, h: &[u8], c: u64, f: u64, right40: bool) -> Perhaps
     let Perhaps::Number(b) = read else {
         return Perhaps::Nothing;
     };
-    if !block_fits(g, c, f, right40, b) {
-        return Perhaps::Nothing;
-    }
-    Perhaps::Number(b)
+    number_if(block_fits(g, c, f, right40, b), b)
 }
 
 // "63 space, or B for blocked; S needs B; level space needs space." 40 is right.
@@ -177,10 +183,7 @@ pub fn record_in(g: Geometry, h: &[u8], x: Seen, b: u64, right63: bool) -> Perha
     let Perhaps::Number(r) = read else {
         return Perhaps::Nothing;
     };
-    if !record_fits(x.level, x.format, right63, b == 66, x.block, r) {
-        return Perhaps::Nothing;
-    }
-    Perhaps::Number(r)
+    number_if(record_fits(x.level, x.format, right63, b == 66, x.block, r), r)
 }
 
 fn unused_fits(f: u64, right63: bool, blocked: bool, b: u64, r: u64, u: u64) -> bool

@@ -30,7 +30,13 @@ pub is-nothing : (t : Bool) (n : ℕ) → t ≡ false → Nothing ≡ perhaps t 
 unfolding perhaps
 is-nothing t n h = simp h
 
--- the same of an answer x that a function gave and that was found to be a number
+pub perhaps-same : {x : Perhaps} (t u : Bool) (n m : ℕ) → t ≡ u → n ≡ m → x ≡ perhaps t n → x ≡ perhaps u m
+perhaps-same t u n m h e q = cc
+
+-- the same of an answer x that a function gave, and that was found to be a number or none
+pub read-fails : {x : Perhaps} (t : Bool) (n : ℕ) → x ≡ Nothing → x ≡ perhaps t n → t ≡ false
+read-fails t n e q = test-fails t n (sym q ∙ e)
+
 pub read-holds : {x : Perhaps} {k : ℕ} (t : Bool) (n : ℕ) → x ≡ Number k → x ≡ perhaps t n → t ≡ true
 read-holds {k = k} t n e q = test-holds t n k (sym q ∙ e)
 

@@ -1,10 +1,9 @@
 -- `record_in` meets its contract: neither spaces nor digits, or a number that fits or not.
 -- Assumes nothing.
-use mathlib.Core.Path.{sym, _∙_}
-use borrow.Author.Tests.{not-true, not-false}
 use borrow.Author.Needs.{needs}
-use Rattle.fields.proofs.PerhapsLaws.{is-number, is-nothing}
-use Rattle.checks.proofs.PartLaws.{block-is, record-no, record-is}
+use mathlib.Core.Path.{sym, _∙_}
+use Rattle.fields.proofs.PerhapsLaws.{is-nothing, perhaps-same}
+use Rattle.checks.proofs.PartLaws.{record-no, record-is}
 use Rattle.checks.proofs.ExitLaws.{blank-no, blank-yes, record-blank}
 use Rattle.checks.proofs.record_in.Statement.{statement}
 use Rattle.checks.proofs.record_in.Tie as tie
@@ -24,17 +23,16 @@ returns c = is-nothing _ _ (record-no _ _ (blank-no _ _ (sym (c .before .before 
 record-fits-requires : tie.Need-record-fits-requires
 record-fits-requires c κs = search needs
 
+number-if-requires : tie.Need-number-if-requires
+number-if-requires c κs = search needs
+
 returns-2 : tie.Need-returns-2
 returns-2 c =
     let c1 = c .before .before .before in
     let c2 = c1 .before .before .before .before in
-    is-nothing _ _ (sym (record-is _ _ _ _ _ _ _ (c2 .pre .1) (c2 .pre .2) (c2 .pre .3) (record-blank _ _ _ (c2 .pre .1 .block-is) (sym (c1 .before .before .blank-or .ensures) ∙ c1 .read .given .1)) (blank-yes _ _ _ (sym (c1 .before .before .blank-or .ensures) ∙ c1 .read .given .1)) (c .before .record-fits .ensures)) ∙ not-true _ (c .if1 .taken))
-
-returns-3 : tie.Need-returns-3
-returns-3 c =
-    let c1 = c .before .before .before in
-    let c2 = c1 .before .before .before .before in
-    is-number _ _ _ (sym (record-is _ _ _ _ _ _ _ (c2 .pre .1) (c2 .pre .2) (c2 .pre .3) (record-blank _ _ _ (c2 .pre .1 .block-is) (sym (c1 .before .before .blank-or .ensures) ∙ c1 .read .given .1)) (blank-yes _ _ _ (sym (c1 .before .before .blank-or .ensures) ∙ c1 .read .given .1)) (c .before .record-fits .ensures)) ∙ not-false _ (c .if1 .left)) (record-blank _ _ _ (c2 .pre .1 .block-is) (sym (c1 .before .before .blank-or .ensures) ∙ c1 .read .given .1))
+    let e = sym (c1 .before .before .blank-or .ensures) ∙ c1 .read .given .1 in
+    let m = record-blank _ _ _ (c2 .pre .1 .block-is) e in
+    perhaps-same _ _ _ _ (record-is _ _ _ _ _ _ _ (c2 .pre .1) (c2 .pre .2) (c2 .pre .3) m (blank-yes _ _ _ e) (c .before .record-fits .ensures)) m (c .number-if .ensures)
 
 pub record-in-spec : {M : Type 1} → statement M
 record-in-spec =
@@ -45,5 +43,5 @@ record-in-spec =
     enum-told
     returns
     record-fits-requires
-    returns-2
-    returns-3)
+    number-if-requires
+    returns-2)
