@@ -99,37 +99,37 @@ module _ (blank : ℕ) (f : List ℕ) where
   unfolding blankOr
   blank-own r t e = rw t e
 
-  pub blank-no : blankOr blank f ≡ Nothing → (spaces f || digits f) ≡ false
+  pub blank-no : {x : Perhaps} → x ≡ Nothing → x ≡ blankOr blank f → (spaces f || digits f) ≡ false
   unfolding blankOr
-  blank-no e = go (spaces f) e
+  blank-no e q = go (spaces f) (sym q ∙ e)
     where
       go : (t : Bool) → cond t (Number blank) (perhaps (digits f) (number f)) ≡ Nothing → (t || digits f) ≡ false
       go true e = cc
       go false e = test-fails (digits f) (number f) e
 
-  pub blank-yes : (m : ℕ) → blankOr blank f ≡ Number m → (spaces f || digits f) ≡ true
+  pub blank-yes : {x : Perhaps} {m : ℕ} → x ≡ Number m → x ≡ blankOr blank f → (spaces f || digits f) ≡ true
   unfolding blankOr
-  blank-yes m e = go (spaces f) e
+  blank-yes {m = m} e q = go (spaces f) (sym q ∙ e)
     where
       go : (t : Bool) → cond t (Number blank) (perhaps (digits f) (number f)) ≡ Number m → (t || digits f) ≡ true
       go true e = refl
       go false e = test-holds (digits f) (number f) m e
 
-  pub blank-is : (m : ℕ) → blankOr blank f ≡ Number m → m ≡ cond (spaces f) blank (number f)
+  blank-is : {x : Perhaps} {m : ℕ} → x ≡ Number m → x ≡ blankOr blank f → m ≡ cond (spaces f) blank (number f)
   unfolding blankOr
-  blank-is m e = go (spaces f) e
+  blank-is {m = m} e q = go (spaces f) (sym q ∙ e)
     where
       go : (t : Bool) → cond t (Number blank) (perhaps (digits f) (number f)) ≡ Number m → m ≡ cond t blank (number f)
       go true e = cc
       go false e = number-is (digits f) (number f) m e
 
-pub record-blank : (h : List ℕ) (B m : ℕ) → B ≡ blockLength h → blankOr B (field h 54 57) ≡ Number m → m ≡ recordLength h
+pub record-blank : {x : Perhaps} {m : ℕ} (h : List ℕ) (B : ℕ) → x ≡ Number m → x ≡ blankOr B (field h 54 57) → B ≡ blockLength h → m ≡ recordLength h
 unfolding recordLength
-record-blank h B m k e = blank-is B (field h 54 57) m e ∙ ap (λ (n : ℕ). cond (spaces (field h 54 57)) n (number (field h 54 57))) k
+record-blank h B e q k = blank-is B (field h 54 57) e q ∙ ap (λ (n : ℕ). cond (spaces (field h 54 57)) n (number (field h 54 57))) k
 
-pub unused-blank : (h : List ℕ) (m : ℕ) → blankOr 0 (field h 58 62) ≡ Number m → m ≡ unusedCount h
+pub unused-blank : {x : Perhaps} {m : ℕ} (h : List ℕ) → x ≡ Number m → x ≡ blankOr 0 (field h 58 62) → m ≡ unusedCount h
 unfolding unusedCount
-unused-blank h m e = blank-is 0 (field h 58 62) m e
+unused-blank h e q = blank-is 0 (field h 58 62) e q
 
 -- dates
 module _ (f : List ℕ) where

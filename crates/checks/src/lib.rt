@@ -183,7 +183,10 @@ pub fn record_in(g: Geometry, h: &[u8], x: Seen, b: u64, right63: bool) -> Perha
     let Perhaps::Number(r) = read else {
         return Perhaps::Nothing;
     };
-    number_if(record_fits(x.level, x.format, right63, b == 66, x.block, r), r)
+    number_if(
+        record_fits(x.level, x.format, right63, b == 66, x.block, r),
+        r,
+    )
 }
 
 fn unused_fits(f: u64, right63: bool, blocked: bool, b: u64, r: u64, u: u64) -> bool

@@ -1,8 +1,7 @@
 -- `end_right` meets its contract: no address, or one that is compared with the start.
 -- Assumes nothing.
-use mathlib.Core.Path.{sym, _∙_}
 use borrow.Author.Needs.{needs}
-use Rattle.fields.proofs.PerhapsLaws.{test-holds, number-is, test-fails}
+use Rattle.fields.proofs.PerhapsLaws.{read-fails, read-holds, read-number}
 use Rattle.checks.proofs.ExitLaws.{end-no, end-is}
 use Rattle.checks.proofs.end_right.Statement.{statement}
 use Rattle.checks.proofs.end_right.Tie as tie
@@ -26,13 +25,10 @@ enum-told : tie.Need-enum-told
 enum-told c = search needs
 
 returns : tie.Need-returns
-returns c = end-no _ _ (test-fails _ _ (sym (c .before .before .address-rank .ensures) ∙ c .enum-told .given .1))
+returns c = search (end-no, read-fails)
 
 returns-2 : tie.Need-returns-2
-returns-2 c =
-    let c1 = c .before .before .before in
-    let c2 = c1 .before .before .before in
-    end-is _ _ _ _ (test-holds _ _ _ (sym (c1 .address-rank .ensures) ∙ c .before .read .given .1)) (number-is _ _ _ (sym (c1 .address-rank .ensures) ∙ c .before .read .given .1)) (c2 .pre .2) (c2 .pre .1)
+returns-2 c = search (end-is, read-holds, read-number)
 
 pub end-right-spec : {M : Type 1} → statement M
 end-right-spec =

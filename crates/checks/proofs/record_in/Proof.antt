@@ -1,7 +1,6 @@
 -- `record_in` meets its contract: neither spaces nor digits, or a number that fits or not.
 -- Assumes nothing.
 use borrow.Author.Needs.{needs}
-use mathlib.Core.Path.{sym, _∙_}
 use Rattle.fields.proofs.PerhapsLaws.{is-nothing, perhaps-same}
 use Rattle.checks.proofs.PartLaws.{record-no, record-is}
 use Rattle.checks.proofs.ExitLaws.{blank-no, blank-yes, record-blank}
@@ -18,7 +17,7 @@ enum-told : tie.Need-enum-told
 enum-told c = search needs
 
 returns : tie.Need-returns
-returns c = is-nothing _ _ (record-no _ _ (blank-no _ _ (sym (c .before .before .blank-or .ensures) ∙ c .enum-told .given .1)))
+returns c = search (is-nothing, record-no, blank-no)
 
 record-fits-requires : tie.Need-record-fits-requires
 record-fits-requires c κs = search needs
@@ -27,12 +26,7 @@ number-if-requires : tie.Need-number-if-requires
 number-if-requires c κs = search needs
 
 returns-2 : tie.Need-returns-2
-returns-2 c =
-    let c1 = c .before .before .before in
-    let c2 = c1 .before .before .before .before in
-    let e = sym (c1 .before .before .blank-or .ensures) ∙ c1 .read .given .1 in
-    let m = record-blank _ _ _ (c2 .pre .1 .block-is) e in
-    perhaps-same _ _ _ _ (record-is _ _ _ _ _ _ _ (c2 .pre .1) (c2 .pre .2) (c2 .pre .3) m (blank-yes _ _ _ e) (c .before .record-fits .ensures)) m (c .number-if .ensures)
+returns-2 c = search (perhaps-same, record-is, record-blank, blank-yes)
 
 pub record-in-spec : {M : Type 1} → statement M
 record-in-spec =

@@ -1,6 +1,5 @@
 -- `unused_right` meets its contract: neither spaces nor digits, or a number that fits or not.
 -- Assumes nothing.
-use mathlib.Core.Path.{sym, _∙_}
 use borrow.Author.Needs.{needs}
 use Rattle.checks.proofs.PartLaws.{unused-no, unused-is}
 use Rattle.checks.proofs.ExitLaws.{blank-no, blank-yes, unused-blank}
@@ -17,16 +16,13 @@ enum-told : tie.Need-enum-told
 enum-told c = search needs
 
 returns : tie.Need-returns
-returns c = sym (unused-no _ _ (blank-no _ _ (sym (c .before .before .blank-or .ensures) ∙ c .enum-told .given .1)))
+returns c = search (unused-no, blank-no)
 
 unused-fits-requires : tie.Need-unused-fits-requires
 unused-fits-requires c κs = search needs
 
 returns-2 : tie.Need-returns-2
-returns-2 c =
-    let c1 = c .before .before .before .before in
-    let c2 = c1 .before .before in
-    unused-is _ _ _ _ _ _ _ (c2 .pre .1) (c2 .pre .2) (c2 .pre .3) (c2 .pre .4) _ (blank-yes _ _ _ (sym (c1 .blank-or .ensures) ∙ c .before .before .read .given .1)) (c2 .pre .5) (unused-blank _ _ (sym (c1 .blank-or .ensures) ∙ c .before .before .read .given .1)) (c .unused-fits .ensures)
+returns-2 c = search (unused-is, blank-yes, unused-blank)
 
 pub unused-right-spec : {M : Type 1} → statement M
 unused-right-spec =
