@@ -1,47 +1,41 @@
--- Request 2026-01, deleting: the exits of the list of refusals, and of the call.
+-- Request 2026-01, deleting: the list of refusals, and the exits of the call.
 -- Assumes nothing.
 use Prim.Native.Nat.{ℕ, _≤_}
-use mathlib.Core.Path.{_≡_, sym, ap, _∙_}
-use mathlib.Core.Bool.{true, false, not, cond}
-use mathlib.Core.List.{List}
-use borrow.Author.Tests.{eq-eqb, ne-eqb}
-use Rattle.standard.specs.Characters.{at}
-use Rattle.standard.specs.Refusals.{refuse, given-when, inOrder, orElse}
+use mathlib.Core.Path.{_≡_, refl, sym, ap, _∙_}
+use mathlib.Core.Bool.{true, cond}
+use mathlib.Core.List.{List, [], _∷_}
+use Rattle.standard.specs.Refusals.{inOrder, orElse}
 use Rattle.standard.specs.Layout.{slotCount, labelAt}
-use Rattle.standard.specs.Labels.{knownLevel}
-use Rattle.standard.specs.Slots.{isLabel, hasLabel}
+use Rattle.standard.specs.Slots.{isLabel}
 use Rattle.standard.specs.Files.{extentSize}
 use Rattle.standard.specs.Judgement.{judged}
+use Rattle.standard.specs.Writing.{refusal24}
 use Rattle.standard.specs.Creating.{deleteRefusal, imageWithout, deletion, deleted, imageAfterDelete, Deletion}
 use Rattle.standard.specs.declared.Geometry.{Geometry}
 use Rattle.standard.specs.declared.Refusal.{Refusal}
+use Rattle.standard.specs.declared.Checked.{Checked}
 use Rattle.standard.specs.declared.Checked.the-variants.{Passed, Stopped}
 use Rattle.standard.specs.declared.Counted.{Counted}
 use Rattle.standard.specs.declared.Counted.the-variants.{Uncounted, Count}
 use Rattle.standard.specs.declared.Judged.the-variants.{Refused, Volume}
 use Rattle.promises.specs.AcceptedLaws.{has-slot}
 use Rattle.promises.specs.Deletions.{deletable, deletion-is}
+use Rattle.finding.specs.Slot.{knownFile}
+use Rattle.finding.proofs.AskLaws.{known-first}
 
--- 13, 14 and 24, each behind the ones before it, by the tests as they are made
+last-only : (c : Checked) → inOrder (c ∷ []) ≡ c
+unfolding inOrder
+last-only Passed = refl
+last-only (Stopped r) = refl
+
 module _ (g : Geometry) (image : List ℕ) (slot : ℕ) where
   abbrev h : List ℕ
   h = labelAt g image slot
 
-  pub drop-13 : not (hasLabel g image slot) ≡ true → Stopped (refuse 13 0) ≡ deleteRefusal g image slot
-  unfolding deleteRefusal given-when inOrder orElse
-  drop-13 a = rw a
-
-  pub drop-14 : not (hasLabel g image slot) ≡ false → not (knownLevel h) ≡ true → Stopped (refuse 14 slot) ≡ deleteRefusal g image slot
-  unfolding deleteRefusal given-when inOrder orElse
-  drop-14 a b = rw (a, b)
-
-  pub drop-24 : not (hasLabel g image slot) ≡ false → not (knownLevel h) ≡ false → at h 43 ≡ 80 → Stopped (refuse 24 slot) ≡ deleteRefusal g image slot
-  unfolding deleteRefusal given-when inOrder orElse
-  drop-24 a b p = rw (a, b, eq-eqb (at h 43) 80 p)
-
-  pub drop-none : not (hasLabel g image slot) ≡ false → not (knownLevel h) ≡ false → (at h 43 ≡ 80 → ⊥) → Passed ≡ deleteRefusal g image slot
-  unfolding deleteRefusal given-when inOrder orElse
-  drop-none a b p = rw (a, b, ne-eqb (at h 43) 80 p)
+  -- 13 and 14, then 24
+  pub drop-list : (k : Checked) → k ≡ knownFile g image slot → orElse k (refusal24 h slot) ≡ deleteRefusal g image slot
+  unfolding deleteRefusal
+  drop-list k e = rw (e, known-first g image slot (refusal24 h slot ∷ []), last-only (refusal24 h slot))
 
   -- a slot that is deleted has a label: it is one of the volume's, and the size of its extent is the label's
   pub dropped-slot : deleteRefusal g image slot ≡ Passed → (1 ≤ slot) × (slot ≤ slotCount g) × (isLabel g image slot ≡ true)

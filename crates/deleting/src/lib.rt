@@ -1,15 +1,12 @@
 // Deleting a file (request 2026-01): "Deleting gives the slot the incorrect mark and first byte `D`, nothing else." First everything that can be refused is asked;
 // then one store to the slot's sector.
-use finding::has_label;
-use labels::known_level;
-use layout::label_at;
+use finding::known_file;
+use finding::unprotected;
 use relabel::store_slot;
 use standard::Checked;
 use standard::Counted;
 use standard::Geometry;
 use standard::Judged;
-use standard::Refusal;
-use standard::wide;
 use vacancy::size_in;
 use volume::judge;
 use volume::refusal_of;
@@ -24,17 +21,7 @@ pub fn plan_out(g: Geometry, image: &[u8], slot: u64) -> Checked
     requires { ⌜ judged (now image) ≡ Judged.Volume g ⌝ }
     ensures { λ r. ⌜ r ≡ deleteRefusal g (now (image .entry)) slot ⌝ }
 {
-    if !has_label(g, image, slot) {
-        return Checked::Stopped(Refusal::at(13, 0));
-    }
-    let h = label_at(g, image, slot);
-    if !known_level(h) {
-        return Checked::Stopped(Refusal::at(14, slot));
-    }
-    if wide(h[42]) == 80 {
-        return Checked::Stopped(Refusal::at(24, slot));
-    }
-    Checked::Passed
+    unprotected(g, image, slot, known_file(g, image, slot))
 }
 
 // The delete carried out. Answers how many records are free again: those of the extent. (Inner, for layers above: where nothing is refused.)

@@ -2,19 +2,20 @@
 -- Assumes nothing.
 use Prim.Native.Nat.{ℕ}
 use mathlib.Core.Path.{_≡_, ap}
-use mathlib.Core.Bool.{true, false}
+use mathlib.Core.Bool.{false}
 use mathlib.Core.List.{List, [], _∷_}
 use lib.ListN.{length}
-use Rattle.standard.specs.Refusals.{refuse, given-when, inOrder}
+use Rattle.standard.specs.Refusals.{inOrder}
 use Rattle.standard.specs.Layout.{labelAt}
-use Rattle.standard.specs.Labels.{knownLevel}
-use Rattle.standard.specs.Slots.{hasLabel}
 use Rattle.standard.specs.Files.{addressesFrom, blockCount, refusal17, refusal18, countRefusal, countOr, countIn, counted}
 use Rattle.standard.specs.Judgement.{judged}
 use Rattle.standard.specs.declared.Geometry.{Geometry}
 use Rattle.standard.specs.declared.Refusal.{Refusal}
+use Rattle.standard.specs.declared.Checked.the-variants.{Passed, Stopped}
 use Rattle.standard.specs.declared.Judged.the-variants.{Refused, Volume}
 use Rattle.standard.specs.declared.Counted.the-variants.{Uncounted}
+use Rattle.finding.specs.Slot.{knownFile}
+use Rattle.finding.proofs.AskLaws.{known-stops, known-passes}
 use Rattle.extents.specs.Cursors.{goodFrom}
 use Rattle.extents.specs.Surveys.{surveyed}
 use Rattle.extents.specs.declared.Condition.{Condition}
@@ -28,19 +29,15 @@ tally-by g image n slot k e = ap (talliedBy n slot (length (goodFrom g image (n 
 
 -- the exits of a count
 module _ (g : Geometry) (image : List ℕ) (slot : ℕ) where
-  pub count-13 : hasLabel g image slot ≡ false → Uncounted (refuse 13 0) ≡ countIn g image slot
-  unfolding countRefusal given-when inOrder
-  count-13 a = simp a
+  pub count-stopped : (r : Refusal) → knownFile g image slot ≡ Stopped r → Uncounted r ≡ countIn g image slot
+  unfolding countRefusal
+  count-stopped r e = rw (known-stops g image slot r _ e)
 
-  pub count-14 : hasLabel g image slot ≡ true → knownLevel (labelAt g image slot) ≡ false → Uncounted (refuse 14 slot) ≡ countIn g image slot
-  unfolding countRefusal given-when inOrder
-  count-14 a b = simp (a, b)
-
-  pub count-on : hasLabel g image slot ≡ true → knownLevel (labelAt g image slot) ≡ true
+  pub count-on : knownFile g image slot ≡ Passed
       → countOr (inOrder (refusal17 g image (labelAt g image slot) ∷ refusal18 g image (labelAt g image slot) slot ∷ [])) (blockCount g image (labelAt g image slot))
       ≡ countIn g image slot
-  unfolding countRefusal given-when inOrder
-  count-on a b = simp (a, b)
+  unfolding countRefusal
+  count-on e = rw (known-passes g image slot _ e)
 
 -- a file call on a volume that is refused, and on one that is not
 pub counted-refused : (image : List ℕ) (slot : ℕ) (r : Refusal) → judged image ≡ Refused r → Uncounted r ≡ counted image slot

@@ -5,17 +5,17 @@ use extents::count_good;
 use extents::survey;
 use fields::minus;
 use fields::wide16;
-use finding::has_label;
+use finding::known_file;
 use labels::block_length;
 use labels::data_end_rank;
 use labels::end_rank;
-use labels::known_level;
 use labels::record_length;
 use labels::start_of;
 use labels::start_rank;
 use labels::unused_count;
 use layout::label_at;
 use standard::Address;
+use standard::Checked;
 use standard::Counted;
 use standard::Geometry;
 use standard::Judged;
@@ -151,14 +151,11 @@ pub fn count_in(g: Geometry, image: &[u8], slot: u64) -> Counted
     requires { ⌜ judged (now image) ≡ Judged.Volume g ⌝ }
     ensures { λ r. ⌜ r ≡ countIn g (now (image .entry)) slot ⌝ }
 {
-    if !has_label(g, image, slot) {
-        return Counted::Uncounted(Refusal::at(13, 0));
+    let k = known_file(g, image, slot);
+    if let Checked::Stopped(r) = k {
+        return Counted::Uncounted(r);
     }
-    let h = label_at(g, image, slot);
-    if !known_level(h) {
-        return Counted::Uncounted(Refusal::at(14, slot));
-    }
-    tally(g, image, numbers_of(g, h), slot)
+    tally(g, image, numbers_of(g, label_at(g, image, slot)), slot)
 }
 
 // The number of a file's blocks. "A file call stops at the first refusal of the volume."

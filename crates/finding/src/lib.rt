@@ -1,25 +1,31 @@
-// Finding a file of the volume: by its name or its slot, its label's bytes in the image. What a customer calls has no `requires`.
+// Finding a file of the volume: by its name or its slot, its label's bytes in the image; and what the calls on a file ask of its slot first. What a customer
+// calls has no `requires`.
 use index::is_known;
 use index::is_label;
+use labels::known_level;
 use labels::name_is;
 use layout::label_at;
 use layout::label_offset;
 use layout::slot_count;
+use standard::Checked;
 use standard::Found;
 use standard::Geometry;
 use standard::Judged;
 use standard::Refusal;
+use standard::wide;
 use volume::judge;
 use volume::refusal_of;
 ghost use mathlib.Core.Path.{_≡_};
+ghost use mathlib.Core.Bool.{true};
 ghost use mathlib.Core.List.{[]};
 ghost use Prim.Native.Nat.{_≤_};
-ghost use Rattle.standard.specs.Refusals.{refuse};
-ghost use Rattle.standard.specs.Layout.{slotCount};
+ghost use Rattle.standard.specs.Refusals.{refuse, orElse};
+ghost use Rattle.standard.specs.Layout.{slotCount, labelAt};
 ghost use Rattle.standard.specs.Slots.{hasLabel};
 ghost use Rattle.standard.specs.Finding.{isNamed, found, foundAt, labelNamed, labelInSlot};
+ghost use Rattle.standard.specs.Writing.{refusal24};
 ghost use Rattle.index.specs.Whole.{Slotted};
-ghost use Rattle.finding.specs.Slot.{slotNamed};
+ghost use Rattle.finding.specs.Slot.{slotNamed, knownFile};
 
 // Whether a slot of the volume has a label. (For layers above: any slot, on an accepted volume.)
 pub fn has_label(g: Geometry, image: &[u8], slot: u64) -> bool
@@ -34,6 +40,35 @@ pub fn has_label(g: Geometry, image: &[u8], slot: u64) -> bool
         return false;
     }
     is_label(g, image, slot)
+}
+
+// Refusals 13 and 14: what every call on a file asks of its slot first. (For layers above, on an accepted volume.)
+pub fn known_file(g: Geometry, image: &[u8], slot: u64) -> Checked
+    requires { ⌜ Slotted g (now image) ⌝ }
+    ensures { λ r. ⌜ r ≡ knownFile g (now (image .entry)) slot ⌝ }
+{
+    if !has_label(g, image, slot) {
+        return Checked::Stopped(Refusal::at(13, 0));
+    }
+    if !known_level(label_at(g, image, slot)) {
+        return Checked::Stopped(Refusal::at(14, slot));
+    }
+    Checked::Passed
+}
+
+// 24 "43 is P", behind what was asked of the slot before it: writing and deleting ask it. (For layers above, on an accepted volume.)
+pub fn unprotected(g: Geometry, image: &[u8], slot: u64, asked: Checked) -> Checked
+    requires { ⌜ Slotted g (now image) × (asked ≡ Checked.Passed → hasLabel g (now image) slot ≡ true) ⌝ }
+    ensures { λ r. ⌜ r ≡ orElse asked (refusal24 (labelAt g (now (image .entry)) slot) slot) ⌝ }
+{
+    if let Checked::Stopped(r) = asked {
+        return Checked::Stopped(r);
+    }
+    let h = label_at(g, image, slot);
+    if wide(h[42]) == 80 {
+        return Checked::Stopped(Refusal::at(24, slot));
+    }
+    Checked::Passed
 }
 
 fn is_named(g: Geometry, image: &[u8], name: &[u8], slot: u64) -> bool

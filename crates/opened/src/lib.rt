@@ -3,31 +3,18 @@
 // thin: each makes it, takes it apart or passes it on.
 // `read_at` and `salvage_at` take any image, slot and place. What requires `Carries` is for callers in these crates who hold what `open`, `carry` or an answer
 // gave them: numbers of another image could lead a reader out of this one.
-use opening::FileNumbers;
-use opening::Opening;
-use opening::Seat;
-use opening::first_seat;
-use opening::open_in;
+use opening::Stage;
+use opening::begin;
 use reading::read_on;
 use standard::Answer;
-use standard::Judged;
 use standard::Place;
-use standard::Refusal;
-use volume::judge;
-use volume::refusal_of;
 ghost use mathlib.Core.Path.{_≡_};
 ghost use Rattle.standard.specs.Records.{plain, salvage};
 ghost use Rattle.standard.specs.Reading.{readAnswer, outputAfter};
 ghost use Rattle.walks.specs.Walks.{modeOf};
 ghost use Rattle.opened.specs.Carries.{Carries, Asks};
 
-// What opening a file said: one of the refusals 1 to 18; or its numbers, and the seat of the block where the last reading began.
-pub enum Stage {
-    Closed(Refusal),
-    Going(FileNumbers, Seat),
-}
-
-// What an opened file carries beside the image.
+// What an opened file carries beside the image: what opening it said, with the seat of the block where the last reading began.
 pub struct Carried {
     pub slot: u64,
     pub stage: Stage,
@@ -39,27 +26,13 @@ pub struct Told {
     pub carried: Carried,
 }
 
-// Judges the volume and opens the file in a slot. "A file call stops at the first refusal of the volume."
+// Judges the volume and opens the file in a slot.
 pub fn carry(image: &[u8], slot: u64) -> Carried
     ensures { λ r. ⌜ (Carries (now (image .entry)) r) × (r .slot ≡ slot) ⌝ }
 {
-    let j = judge(image);
-    let Judged::Volume(g) = j else {
-        return Carried {
-            slot: slot,
-            stage: Stage::Closed(refusal_of(j)),
-        };
-    };
-    let o = open_in(g, image, slot);
-    match o {
-        Opening::Shut(r) => Carried {
-            slot: slot,
-            stage: Stage::Closed(r),
-        },
-        Opening::Open(f) => Carried {
-            slot: slot,
-            stage: Stage::Going(f, first_seat(image, f)),
-        },
+    Carried {
+        slot: slot,
+        stage: begin(image, slot),
     }
 }
 

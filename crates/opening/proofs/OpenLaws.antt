@@ -23,7 +23,9 @@ use Rattle.promises.specs.Basics.{never}
 use Rattle.promises.specs.Judging.{order-each, order-append, not-given}
 use Rattle.promises.specs.AcceptedLaws.{label-in-range}
 use Rattle.labels.specs.Forms.{formIn}
+use Rattle.finding.specs.Slot.{knownFile}
 use Rattle.finding.proofs.FindLaws.{tested}
+use Rattle.finding.proofs.AskLaws.{known-stops, known-passes}
 use Rattle.labels.specs.declared.Form.{Form}
 use Rattle.extents.specs.Surveys.{surveyed}
 use Rattle.files.specs.Numbers.{numbersOf, tallied}
@@ -42,29 +44,24 @@ module _ (g : Geometry) (image : List ℕ) (slot : ℕ) where
   abbrev h : List ℕ
   h = labelAt g image slot
 
-  -- 13 to 16, each behind the ones before it, by the tests as they are made
-  pub usable-13 : not (hasLabel g image slot) ≡ true → Stopped (refuse 13 0) ≡ usableIn g image slot
-  unfolding usableIn given-when inOrder
-  usable-13 a = simp a
+  -- 13 and 14; then 15 and 16 behind them, by the tests as they are made
+  pub usable-stopped : (r : Refusal) → knownFile g image slot ≡ Stopped r → Stopped r ≡ usableIn g image slot
+  unfolding usableIn
+  usable-stopped r k = sym (known-stops g image slot r _ k)
 
-  module _ (a : not (hasLabel g image slot) ≡ false) where
-    pub usable-14 : not (knownLevel h) ≡ true → Stopped (refuse 14 slot) ≡ usableIn g image slot
+  module _ (k : knownFile g image slot ≡ Passed) where
+    pub usable-15 : not (isSpace (at h 42)) ≡ true → Stopped (refuse 15 slot) ≡ usableIn g image slot
     unfolding usableIn given-when inOrder
-    usable-14 b = simp (a, b)
+    usable-15 d = rw (known-passes g image slot _ k, d)
 
-    module _ (b : not (knownLevel h) ≡ false) where
-      pub usable-15 : not (isSpace (at h 42)) ≡ true → Stopped (refuse 15 slot) ≡ usableIn g image slot
+    module _ (d : not (isSpace (at h 42)) ≡ false) where
+      pub usable-16 : not (isSpace (at h 45)) ≡ true → Stopped (refuse 16 slot) ≡ usableIn g image slot
       unfolding usableIn given-when inOrder
-      usable-15 d = simp (a, b, d)
+      usable-16 e = rw (known-passes g image slot _ k, d, e)
 
-      module _ (d : not (isSpace (at h 42)) ≡ false) where
-        pub usable-16 : not (isSpace (at h 45)) ≡ true → Stopped (refuse 16 slot) ≡ usableIn g image slot
-        unfolding usableIn given-when inOrder
-        usable-16 e = simp (a, b, d, e)
-
-        pub usable-all : not (isSpace (at h 45)) ≡ false → Passed ≡ usableIn g image slot
-        unfolding usableIn given-when inOrder
-        usable-all e = simp (a, b, d, e)
+      pub usable-all : not (isSpace (at h 45)) ≡ false → Passed ≡ usableIn g image slot
+      unfolding usableIn given-when inOrder
+      usable-all e = rw (known-passes g image slot _ k, d, e)
 
   -- what a slot that passed them has
   pub usable-facts : usableIn g image slot ≡ Passed

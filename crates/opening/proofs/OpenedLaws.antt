@@ -23,7 +23,8 @@ use Rattle.standard.specs.declared.Place.{Place}
 use Rattle.standard.specs.declared.Refusal.{Refusal}
 use Rattle.standard.specs.declared.Checked.{Checked}
 use Rattle.standard.specs.declared.Checked.the-variants.{Passed, Stopped}
-use Rattle.standard.specs.declared.Judged.the-variants.{Volume}
+use Rattle.standard.specs.declared.Judged.{Judged}
+use Rattle.standard.specs.declared.Judged.the-variants.{Refused, Volume}
 use Rattle.promises.specs.Basics.{either, lt-or-le, by-test, and-l, and-r, never}
 use Rattle.promises.specs.Lists.{Every, every-drop, take-short}
 use Rattle.promises.specs.AddressLaws.{Legal, rank-lt}
@@ -43,10 +44,13 @@ use Rattle.extents.specs.declared.Condition.{Condition}
 use Rattle.extents.specs.declared.Condition.the-variants.{Wrong, Whole, Holed}
 use Rattle.extents.proofs.SurveyLaws.{says}
 use Rattle.files.proofs.Blocks.{extent-on}
-use Rattle.opening.specs.Opened.{isWhole, fileNumbers, openOr, openingIn, labelIn, fileOf, Opened, sizeAt, insideBy}
+use Rattle.opening.specs.Opened.{isWhole, fileNumbers, openOr, openingIn, labelIn, fileOf, Opened, sizeAt, insideBy, Seated, openingOn, openingOf, Staged}
 use Rattle.opening.specs.declared.FileNumbers.{FileNumbers}
+use Rattle.opening.specs.declared.Seat.{Seat}
 use Rattle.opening.specs.declared.Opening.{Opening}
 use Rattle.opening.specs.declared.Opening.the-variants.{Shut, Open}
+use Rattle.opening.specs.declared.Stage.{Stage}
+use Rattle.opening.specs.declared.Stage.the-variants.{Closed, Going}
 
 -- a number of at most k digits
 number-small : (n k : ℕ) (f : List ℕ) → digits f ≡ true → length f ≤ k → numberFrom n f < (n + 1) * 10 ^ k
@@ -283,3 +287,29 @@ shut-of image g slot r e = go (openRefusal g image slot) refl e
     go : (c : Checked) → openRefusal g image slot ≡ c → openOr c (fileNumbers g image slot) ≡ Shut r → openRefusal g image slot ≡ Stopped r
     go Passed k e = never (cc)
     go (Stopped s) k e = k ∙ ap Stopped (ap (λ (x : Opening). refusalIn x r) e)
+
+-- WHAT JUDGING AND OPENING GIVE
+module _ (image : List ℕ) (slot : ℕ) where
+  pub staged-refused : (r x : Refusal) → judged image ≡ Refused x → r ≡ x → Staged image slot (Closed r)
+  staged-refused r x j e = rw (j, e)
+
+  module _ (g : Geometry) (j : judged image ≡ Volume g) where
+    pub staged-shut : (r : Refusal) → openingIn g image slot ≡ Shut r → Staged image slot (Closed r)
+    staged-shut r e = rw j e
+
+    pub staged-open : (f : FileNumbers) (s : Seat) → openingIn g image slot ≡ Open f → Seated image f (s .block) (s .at) → Staged image slot (Going f s)
+    staged-open f s e h = (rw j e, h)
+
+  -- and what a stage says of them
+  pub staged-closed : (s : Stage) (r : Refusal) → Staged image slot s → s ≡ Closed r → openingOf image slot ≡ Shut r
+  staged-closed s r h e = rw e at h
+
+  pub staged-going : (s : Stage) (f : FileNumbers) (t : Seat) → Staged image slot s → s ≡ Going f t → (openingOf image slot ≡ Open f) × (Seated image f (t .block) (t .at))
+  staged-going s f t h e = rw e at h
+
+  pub open-opened : (f : FileNumbers) → openingOf image slot ≡ Open f → Opened image f
+  open-opened f e = on (judged image) refl e
+    where
+      on : (j : Judged) → judged image ≡ j → openingOn j image slot ≡ Open f → Opened image f
+      on (Refused r) k e = never (cc)
+      on (Volume g) k e = opened-of image g slot f k e

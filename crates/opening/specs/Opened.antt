@@ -16,7 +16,8 @@ use Rattle.standard.specs.declared.Geometry.{Geometry}
 use Rattle.standard.specs.declared.Place.{Place}
 use Rattle.standard.specs.declared.Checked.{Checked}
 use Rattle.standard.specs.declared.Checked.the-variants.{Passed, Stopped}
-use Rattle.standard.specs.declared.Judged.the-variants.{Volume}
+use Rattle.standard.specs.declared.Judged.{Judged}
+use Rattle.standard.specs.declared.Judged.the-variants.{Refused, Volume}
 use Rattle.labels.specs.Forms.{formIn, formatFor}
 use Rattle.extents.specs.Cursors.{legalAt, standing}
 use Rattle.extents.specs.Surveys.{surveyed}
@@ -26,6 +27,8 @@ use Rattle.extents.specs.declared.Condition.the-variants.{Wrong, Whole, Holed}
 use Rattle.opening.specs.declared.FileNumbers.{FileNumbers}
 use Rattle.opening.specs.declared.Opening.{Opening}
 use Rattle.opening.specs.declared.Opening.the-variants.{Shut, Open}
+use Rattle.opening.specs.declared.Stage.{Stage}
+use Rattle.opening.specs.declared.Stage.the-variants.{Closed, Going}
 
 -- "Reading: 13-19", "Writing: 13-16, 24, 17, 25-27": what both ask of a slot first
 unfoldable pub usableIn : Geometry → List ℕ → ℕ → Checked
@@ -91,3 +94,16 @@ insideBy f pl =
 abbrev pub Seated : List ℕ → FileNumbers → ℕ → Cursor → Type 0
 Seated image f b c =
     (standing (f .g) image c ≡ drop (b * f .m) (goodRecords (f .g) image (labelIn image f))) × (legalAt (f .g) c ≡ true)
+
+-- "A file call stops at the first refusal of the volume.", then "Reading: 13-19": one of 1 to 18, or the numbers of the file in a slot
+abbrev pub openingOn : Judged → List ℕ → ℕ → Opening
+openingOn (Refused r) image slot = Shut r
+openingOn (Volume g) image slot = openingIn g image slot
+
+abbrev pub openingOf : List ℕ → ℕ → Opening
+openingOf image slot = openingOn (judged image) image slot
+
+-- of a refused volume or file, its refusal; of an open one, its numbers, and a cursor on the first record of a block of it
+abbrev pub Staged : List ℕ → ℕ → Stage → Type 0
+Staged image slot (Closed r) = openingOf image slot ≡ Shut r
+Staged image slot (Going f s) = (openingOf image slot ≡ Open f) × (Seated image f (s .block) (s .at))

@@ -1,5 +1,5 @@
 // Opening a file: its numbers, or the refusal 13 to 18 that shuts it; and where its blocks are. Everything here is inner: the layers above call it on an
-// accepted volume.
+// accepted volume, or begin with the judgement of any.
 use extents::Condition;
 use extents::Cursor;
 use extents::nth_good;
@@ -7,11 +7,10 @@ use extents::skip_good;
 use extents::survey;
 use files::numbers_of;
 use files::tally_by;
-use finding::has_label;
+use finding::known_file;
 use labels::Form;
 use labels::form_of;
 use labels::is_blocked;
-use labels::known_level;
 use layout::label_at;
 use standard::Checked;
 use standard::Counted;
@@ -20,6 +19,8 @@ use standard::Judged;
 use standard::Place;
 use standard::Refusal;
 use standard::wide;
+use volume::judge;
+use volume::refusal_of;
 ghost use mathlib.Core.Path.{_≡_};
 ghost use mathlib.Core.Bool.{true};
 ghost use mathlib.Core.List.{[], _∷_};
@@ -33,7 +34,7 @@ ghost use Rattle.standard.specs.Files.{refusal17, refusal18};
 ghost use Rattle.standard.specs.Records.{aligned};
 ghost use Rattle.standard.specs.Judgement.{judged};
 ghost use Rattle.labels.specs.Forms.{formatFor};
-ghost use Rattle.opening.specs.Opened.{isWhole, usableIn, fileNumbers, openOr, openingIn, Opened, sizeAt, insideBy, Seated};
+ghost use Rattle.opening.specs.Opened.{isWhole, usableIn, fileNumbers, openOr, openingIn, Opened, sizeAt, insideBy, Seated, Staged};
 
 // The numbers of an opened file: its volume's, its slot, a cursor on its extent's start, whether every record of the extent is good; "40 space or F (fixed),
 // V, S"; "63 space, or B for blocked"; m, "blocks take m good records in turn"; B, R and U by the document's letters; and the number of its blocks.
@@ -62,13 +63,11 @@ pub fn usable(g: Geometry, image: &[u8], slot: u64) -> Checked
     requires { ⌜ judged (now image) ≡ Judged.Volume g ⌝ }
     ensures { λ r. ⌜ r ≡ usableIn g (now (image .entry)) slot ⌝ }
 {
-    if !has_label(g, image, slot) {
-        return Checked::Stopped(Refusal::at(13, 0));
+    let k = known_file(g, image, slot);
+    if let Checked::Stopped(r) = k {
+        return Checked::Stopped(r);
     }
     let h = label_at(g, image, slot);
-    if !known_level(h) {
-        return Checked::Stopped(Refusal::at(14, slot));
-    }
     if !(wide(h[41]) == 32) {
         return Checked::Stopped(Refusal::at(15, slot));
     }
@@ -218,5 +217,26 @@ pub fn seat_at(image: &[u8], f: FileNumbers, s: Seat, b: u64) -> Seat
     Seat {
         block: b,
         at: skip_good(f.g, image, s.at, (b - block) * f.m),
+    }
+}
+
+// What opening a file said: one of the refusals 1 to 18; or its numbers, and the seat of one of its blocks, from which reading goes on.
+pub enum Stage {
+    Closed(Refusal),
+    Going(FileNumbers, Seat),
+}
+
+// Judges the volume and opens the file in a slot. "A file call stops at the first refusal of the volume."
+pub fn begin(image: &[u8], slot: u64) -> Stage
+    ensures { λ r. ⌜ Staged (now (image .entry)) slot r ⌝ }
+{
+    let j = judge(image);
+    let Judged::Volume(g) = j else {
+        return Stage::Closed(refusal_of(j));
+    };
+    let o = open_in(g, image, slot);
+    match o {
+        Opening::Shut(r) => Stage::Closed(r),
+        Opening::Open(f) => Stage::Going(f, first_seat(image, f)),
     }
 }

@@ -20,6 +20,7 @@ use Rattle.standard.specs.declared.Geometry.{Geometry}
 use Rattle.standard.specs.declared.Place.{Place}
 use Rattle.standard.specs.declared.Refusal.{Refusal}
 use Rattle.standard.specs.declared.Checked.the-variants.{Passed}
+use Rattle.standard.specs.declared.Judged.{Judged}
 use Rattle.standard.specs.declared.Judged.the-variants.{Refused, Volume}
 use Rattle.standard.specs.declared.Answer.{Answer}
 use Rattle.standard.specs.declared.Answer.the-variants.{Unanswered, Record as RecordOf}
@@ -28,7 +29,7 @@ use Rattle.promises.specs.SalvageImage.{file-count}
 use Rattle.labels.specs.Forms.{formatFor}
 use Rattle.labels.specs.declared.Form.{Form}
 use Rattle.labels.specs.declared.Form.the-variants.{Fixed, Variable, Spanned}
-use Rattle.opening.specs.Opened.{fileNumbers, openingIn, labelIn, fileOf, Opened, sizeAt, insideBy, Seated}
+use Rattle.opening.specs.Opened.{fileNumbers, openingIn, labelIn, fileOf, Opened, sizeAt, insideBy, Seated, openingOn, openingOf}
 use Rattle.opening.specs.declared.FileNumbers.{FileNumbers}
 use Rattle.opening.specs.declared.Seat.{Seat}
 use Rattle.opening.specs.declared.Opening.the-variants.{Shut, Open}
@@ -244,32 +245,34 @@ open-same image g slot f e =
     (ap (λ (x : FileNumbers). x .g) (o .1) ∙ own .0, ap (λ (x : FileNumbers). x .slot) (o .1) ∙ own .1, o .0)
 
 module _ (m : Mode) (image : List ℕ) (slot : ℕ) (pl : Place) (room : ℕ) where
-  pub reply-refused : (r : Refusal) → judged image ≡ Refused r → reply m image slot pl room ≡ unanswered r
+  reply-refused : (r : Refusal) → judged image ≡ Refused r → reply m image slot pl room ≡ unanswered r
   unfolding reply
   reply-refused r j = rw j
 
-  pub reply-shut : (g : Geometry) (r : Refusal) → judged image ≡ Volume g → openingIn g image slot ≡ Shut r → reply m image slot pl room ≡ unanswered r
+  reply-shut : (g : Geometry) (r : Refusal) → judged image ≡ Volume g → openingIn g image slot ≡ Shut r → reply m image slot pl room ≡ unanswered r
   unfolding reply
   reply-shut g r j e = rw (j, shut-of image g slot r e)
 
-  pub reply-open : (g : Geometry) (f : FileNumbers) → judged image ≡ Volume g → openingIn g image slot ≡ Open f → reply m image slot pl room ≡ replyIn m (fileOf image f) pl room
+  reply-open : (g : Geometry) (f : FileNumbers) → judged image ≡ Volume g → openingIn g image slot ≡ Open f → reply m image slot pl room ≡ replyIn m (fileOf image f) pl room
   unfolding reply
   reply-open g f j e =
       let s = open-same image g slot f e in
       rw (j, s .2) (ap (λ (file : File). replyIn m file pl room) (rw (s .0, s .1)))
 
--- and the answer and the output of each
+-- and the answer and the output, by what judging and opening said
 module _ (m : Mode) (image : List ℕ) (slot : ℕ) (pl : Place) (out : List ℕ) where
-  pub answer-refused : (r : Refusal) → judged image ≡ Refused r → (Unanswered r ≡ readAnswer m image slot pl out) × (out ≡ outputAfter m image slot pl out)
-  answer-refused r j = refused-reply out r (reply-refused m image slot pl (length out) r j)
+  pub answer-closed : (r : Refusal) → openingOf image slot ≡ Shut r → (Unanswered r ≡ readAnswer m image slot pl out) × (out ≡ outputAfter m image slot pl out)
+  answer-closed r e = refused-reply out r (on (judged image) refl e)
+    where
+      on : (j : Judged) → judged image ≡ j → openingOn j image slot ≡ Shut r → reply m image slot pl (length out) ≡ unanswered r
+      on (Refused x) k e = reply-refused m image slot pl (length out) r (cc)
+      on (Volume g) k e = reply-shut m image slot pl (length out) g r k e
 
-  pub answer-shut : (g : Geometry) (r : Refusal) → judged image ≡ Volume g → openingIn g image slot ≡ Shut r
-      → (Unanswered r ≡ readAnswer m image slot pl out) × (out ≡ outputAfter m image slot pl out)
-  answer-shut g r j e = refused-reply out r (reply-shut m image slot pl (length out) g r j e)
-
-  pub answer-open : (g : Geometry) (f : FileNumbers) (a : Answer) (after : List ℕ) → judged image ≡ Volume g → openingIn g image slot ≡ Open f
+  pub answer-going : (f : FileNumbers) (a : Answer) (after : List ℕ) → openingOf image slot ≡ Open f
       → (a ≡ replyIn m (fileOf image f) pl (length out) .answer) × (after ≡ laidOver (replyIn m (fileOf image f) pl (length out) .body) out)
       → (a ≡ readAnswer m image slot pl out) × (after ≡ outputAfter m image slot pl out)
-  answer-open g f a after j e h =
-      let r = sym (reply-open m image slot pl (length out) g f j e) in
-      same-reply out after a r h
+  answer-going f a after e h = same-reply out after a (sym (on (judged image) refl e)) h
+    where
+      on : (j : Judged) → judged image ≡ j → openingOn j image slot ≡ Open f → reply m image slot pl (length out) ≡ replyIn m (fileOf image f) pl (length out)
+      on (Refused r) k e = never (cc)
+      on (Volume g) k e = reply-open m image slot pl (length out) g f k e

@@ -4,19 +4,15 @@ use blocks::copy;
 use blocks::onward;
 use labels::Form;
 use opening::FileNumbers;
-use opening::Opening;
 use opening::Seat;
-use opening::first_seat;
+use opening::Stage;
+use opening::begin;
 use opening::in_file;
-use opening::open_in;
 use opening::seat_at;
 use pieces::head;
 use standard::Answer;
-use standard::Judged;
 use standard::Place;
 use standard::Refusal;
-use volume::judge;
-use volume::refusal_of;
 use walks::Measured;
 use walks::Stand;
 use walks::Turn;
@@ -256,15 +252,11 @@ pub fn read_on(
 fn answer_at(image: &[u8], slot: u64, salvage: bool, place: Place, out: &mut [u8]) -> Answer
     ensures { λ r. ⌜ (r ≡ readAnswer (modeOf salvage) (now (image .entry)) slot place (now (out .entry))) × (now (out .exit) ≡ outputAfter (modeOf salvage) (now (image .entry)) slot place (now (out .entry))) ⌝ }
 {
-    let j = judge(image);
-    let Judged::Volume(g) = j else {
-        return Answer::Unanswered(refusal_of(j));
-    };
-    let o = open_in(g, image, slot);
-    match o {
-        Opening::Shut(r) => Answer::Unanswered(r),
-        Opening::Open(f) => {
-            let heard = read_on(image, f, salvage, first_seat(image, f), place, out);
+    let stage = begin(image, slot);
+    match stage {
+        Stage::Closed(r) => Answer::Unanswered(r),
+        Stage::Going(f, seat) => {
+            let heard = read_on(image, f, salvage, seat, place, out);
             heard.answer
         }
     }

@@ -7,8 +7,7 @@ use mathlib.Core.List.{List, [], _∷_}
 use lib.ListN.{length}
 use lib.Dec.{ltb, eqb}
 use native.Mathlib.Omega.{arith}
-use borrow.Author.Tests.{lt-ltb, le-ltb, eqb-true, eq-eqb, ne-eqb, not-false}
-use Rattle.standard.specs.Characters.{at}
+use borrow.Author.Tests.{lt-ltb, le-ltb, eqb-true, not-false}
 use Rattle.standard.specs.Refusals.{refuse, given-when, inOrder, orElse}
 use Rattle.standard.specs.Layout.{labelAt}
 use Rattle.standard.specs.Labels.{Format, knownLevel, formatOf, isBlocked, blockLength, recordLength, endOf}
@@ -37,6 +36,7 @@ use Rattle.extents.proofs.SurveyLaws.{says}
 use Rattle.files.specs.Numbers.{numbersOf}
 use Rattle.files.specs.declared.Numbers.{Numbers}
 use Rattle.opening.specs.Opened.{isWhole, usableIn}
+use Rattle.opening.proofs.OpenLaws.{usable-facts}
 use Rattle.opening.proofs.OpenedLaws.{whole-only}
 use Rattle.sizing.specs.Lists.{wrongFrom, Stands}
 use Rattle.sizing.specs.declared.Level.{Level as CodeLevel}
@@ -90,8 +90,7 @@ plan-when true r p = refl
 plan-when false r p = refl
 
 -- a label that passed 13 and 14
-module _ (image : List ℕ) (g : Geometry) (slot : ℕ) (j : judged image ≡ Volume g) (l : hasLabel g image slot ≡ true) (kn : knownLevel (labelAt g image slot) ≡ true)
-    (bodies lengths : List ℕ) where
+module _ (image : List ℕ) (g : Geometry) (slot : ℕ) (j : judged image ≡ Volume g) (l : hasLabel g image slot ≡ true) (kn : knownLevel (labelAt g image slot) ≡ true) where
   abbrev theLabel : List ℕ
   theLabel = labelAt g image slot
 
@@ -101,133 +100,131 @@ module _ (image : List ℕ) (g : Geometry) (slot : ℕ) (j : judged image ≡ Vo
   pub low : blockLength theLabel ≤ 26624
   low = block-low g theLabel (numbers-of image g j) theRules
 
-  -- what is asked before 27, in order
-  abbrev faults : Checked
-  faults = orElse (refusal17 g image theLabel) (faultBy (formatOf theLabel) (blockLength theLabel) (recordLength theLabel) (length bodies) lengths)
+  module _ (bodies lengths : List ℕ) where
+    -- what is asked before 27, in order
+    abbrev faults : Checked
+    faults = orElse (refusal17 g image theLabel) (faultBy (formatOf theLabel) (blockLength theLabel) (recordLength theLabel) (length bodies) lengths)
 
-  draft-cut : draftRefusal g image slot bodies lengths ≡ orElse faults (refusal27 g image theLabel bodies lengths)
-  unfolding draftRefusal faultBy
-  draft-cut =
-      order-cut (refusal17 g image theLabel) (refusal25 bodies lengths) (refusal26 theLabel lengths) (refusal27 g image theLabel bodies lengths)
-      ∙ ap (λ (c : Checked). orElse (orElse (refusal17 g image theLabel) (orElse (refusal25 bodies lengths) c)) (refusal27 g image theLabel bodies lengths)) (wrong-is theLabel 0 lengths)
+    draft-cut : draftRefusal g image slot bodies lengths ≡ orElse faults (refusal27 g image theLabel bodies lengths)
+    unfolding draftRefusal faultBy
+    draft-cut =
+        order-cut (refusal17 g image theLabel) (refusal25 bodies lengths) (refusal26 theLabel lengths) (refusal27 g image theLabel bodies lengths)
+        ∙ ap (λ (c : Checked). orElse (orElse (refusal17 g image theLabel) (orElse (refusal25 bodies lengths) c)) (refusal27 g image theLabel bodies lengths)) (wrong-is theLabel 0 lengths)
 
-  pub draft-stop : (r : Refusal) → faults ≡ Stopped r → (p : Plan) → Stop r ≡ planOr (draftRefusal g image slot bodies lengths) p
-  unfolding orElse
-  draft-stop r e p = sym (ap (λ (c : Checked). planOr c p) (draft-cut ∙ ap (λ (c : Checked). orElse c (refusal27 g image theLabel bodies lengths)) e))
+    pub draft-stop : (r : Refusal) → faults ≡ Stopped r → (p : Plan) → Stop r ≡ planOr (draftRefusal g image slot bodies lengths) p
+    unfolding orElse
+    draft-stop r e p = sym (ap (λ (c : Checked). planOr c p) (draft-cut ∙ ap (λ (c : Checked). orElse c (refusal27 g image theLabel bodies lengths)) e))
 
-  -- what 25 and 26 leave
-  list-right : faults ≡ Passed → (given-when (not (eqb (total lengths) (length bodies))) (refuse 25 0) ≡ Passed) × (lengthsFrom theLabel 0 lengths ≡ Passed)
-  unfolding faultBy
-  list-right e =
-      let b = else-both _ _ (else-both _ _ e .1) in
-      (b .0, wrong-is theLabel 0 lengths ∙ b .1)
+    -- what 25 and 26 leave
+    list-right : faults ≡ Passed → (given-when (not (eqb (total lengths) (length bodies))) (refuse 25 0) ≡ Passed) × (lengthsFrom theLabel 0 lengths ≡ Passed)
+    unfolding faultBy
+    list-right e =
+        let b = else-both _ _ (else-both _ _ e .1) in
+        (b .0, wrong-is theLabel 0 lengths ∙ b .1)
 
-  pub sum-right : faults ≡ Passed → total lengths ≡ length bodies
-  sum-right e = eqb-true (total lengths) (length bodies) (not-false _ (not-given (not (eqb (total lengths) (length bodies))) _ (list-right e .0)))
+    pub sum-right : faults ≡ Passed → total lengths ≡ length bodies
+    sum-right e = eqb-true (total lengths) (length bodies) (not-false _ (not-given (not (eqb (total lengths) (length bodies))) _ (list-right e .0)))
 
-  pub fits-each : faults ≡ Passed → EachFits (formatOf theLabel) (blockLength theLabel) lengths
-  fits-each e = each-fits g theLabel theRules 0 lengths (list-right e .1)
+    pub fits-each : faults ≡ Passed → EachFits (formatOf theLabel) (blockLength theLabel) lengths
+    fits-each e = each-fits g theLabel theRules 0 lengths (list-right e .1)
 
-  -- 27, or the plan
-  pub draft-on : faults ≡ Passed → fittedBy g image slot (levelOn theLabel lengths) ≡ planOr (draftRefusal g image slot bodies lengths) (planOf g image slot bodies lengths)
-  unfolding orElse fittedBy
-  draft-on e =
-      let n : needed theLabel bodies lengths ≡ levelOn theLabel lengths .blocks = needed-level-is g theLabel bodies lengths theRules (sum-right e) (list-right e .1) in
-      let u : packing theLabel bodies lengths .U ≡ levelOn theLabel lengths .room = unused-counted g theLabel bodies lengths theRules (sum-right e) (list-right e .1) in
-      sym (ap (λ (c : Checked). planOr c (planOf g image slot bodies lengths)) (draft-cut ∙ ap (λ (c : Checked). orElse c (refusal27 g image theLabel bodies lengths)) e)
-      ∙ (plan-when (ltb (blocksHeld g image theLabel) (needed theLabel bodies lengths)) (refuse 27 (needed theLabel bodies lengths)) (planOf g image slot bodies lengths)
-      ∙ rw (n, u)))
+    -- 27, or the plan
+    pub draft-on : faults ≡ Passed → fittedBy g image slot (levelOn theLabel lengths) ≡ planOr (draftRefusal g image slot bodies lengths) (planOf g image slot bodies lengths)
+    unfolding orElse fittedBy
+    draft-on e =
+        let n : needed theLabel bodies lengths ≡ levelOn theLabel lengths .blocks = needed-level-is g theLabel bodies lengths theRules (sum-right e) (list-right e .1) in
+        let u : packing theLabel bodies lengths .U ≡ levelOn theLabel lengths .room = unused-counted g theLabel bodies lengths theRules (sum-right e) (list-right e .1) in
+        sym (ap (λ (c : Checked). planOr c (planOf g image slot bodies lengths)) (draft-cut ∙ ap (λ (c : Checked). orElse c (refusal27 g image theLabel bodies lengths)) e)
+        ∙ (plan-when (ltb (blocksHeld g image theLabel) (needed theLabel bodies lengths)) (refuse 27 (needed theLabel bodies lengths)) (planOf g image slot bodies lengths)
+        ∙ rw (n, u)))
 
-  -- ---- the numbers that the code has are the label's
-  module _ (n : Numbers) (en : n ≡ numbersOf g theLabel) where
-    pub walk-is : (found : Condition) → found ≡ surveyed g image false (addressesFrom g (n .size) (n .start)) → wrongBy found ≡ refusal17 g image theLabel
-    unfolding numbersOf extent
-    walk-is found e = ap wrongBy (e ∙ ap (λ (k : Numbers). surveyed g image false (addressesFrom g (k .size) (k .start))) en) ∙ wrong-by g image theLabel
+    -- ---- the numbers that the code has are the label's
+    module _ (n : Numbers) (en : n ≡ numbersOf g theLabel) where
+      pub walk-is : (found : Condition) → found ≡ surveyed g image false (addressesFrom g (n .size) (n .start)) → wrongBy found ≡ refusal17 g image theLabel
+      unfolding numbersOf extent
+      walk-is found e = ap wrongBy (e ∙ ap (λ (k : Numbers). surveyed g image false (addressesFrom g (k .size) (k .start))) en) ∙ wrong-by g image theLabel
 
-    pub whole-is : (found : Condition) → found ≡ surveyed g image false (addressesFrom g (n .size) (n .start)) → isWhole found ≡ true
-        → goodFrom g image (n .size) (n .start) ≡ addressesFrom g (n .size) (n .start)
-    whole-is found e w = says g image false (addressesFrom g (n .size) (n .start)) .whole (whole-only _ (ap isWhole (sym e) ∙ w)) .2
+      pub whole-is : (found : Condition) → found ≡ surveyed g image false (addressesFrom g (n .size) (n .start)) → isWhole found ≡ true
+          → goodFrom g image (n .size) (n .start) ≡ addressesFrom g (n .size) (n .start)
+      whole-is found e w = says g image false (addressesFrom g (n .size) (n .start)) .whole (whole-only _ (ap isWhole (sym e) ∙ w)) .2
 
-    pub faults-are : (found : Condition) (form : Form) (size : ℕ) → found ≡ surveyed g image false (addressesFrom g (n .size) (n .start)) → form ≡ formIn (formatOf theLabel) → size ≡ length bodies
-        → orElse (wrongBy found) (faultBy (formatFor form) (n .B) (n .R) size lengths) ≡ faults
-    unfolding numbersOf
-    faults-are found form size e ef es =
-        let back : formatFor form ≡ formatOf theLabel = ap formatFor ef ∙ format-back (formatOf theLabel) in
-        rw (walk-is found e, back, es, en)
-
-    pub block-few : n .B < 65536
-    unfolding numbersOf
-    block-few = rw en (omega (arith, low))
-
-    module _ (form : Form) (blocked : Bool) (ef : form ≡ formIn (formatOf theLabel)) (eb : blocked ≡ isBlocked theLabel) where
-      format-is : formatFor form ≡ formatOf theLabel
-      format-is = ap formatFor ef ∙ format-back (formatOf theLabel)
-
-      pub level-ready : EachFits (formatOf theLabel) (blockLength theLabel) lengths → EachFits (formatFor form) (n .B) lengths
+      pub faults-are : (found : Condition) (form : Form) (size : ℕ) → found ≡ surveyed g image false (addressesFrom g (n .size) (n .start)) → form ≡ formIn (formatOf theLabel) → size ≡ length bodies
+          → orElse (wrongBy found) (faultBy (formatFor form) (n .B) (n .R) size lengths) ≡ faults
       unfolding numbersOf
-      level-ready h = rw (format-is, en) h
+      faults-are found form size e ef es =
+          let back : formatFor form ≡ formatOf theLabel = ap formatFor ef ∙ format-back (formatOf theLabel) in
+          rw (walk-is found e, back, es, en)
 
-      pub level-is : (v : CodeLevel) → Stands v (levelFrom (formatFor form) blocked (n .B) 0 0 lengths) → Stands v (levelOn theLabel lengths)
+  -- ---- 27, or the plan, by what the code has: the label, its numbers, whether and how its records are blocked, and the list's lengths
+  module _ (h : List ℕ) (eh : h ≡ theLabel) (n : Numbers) (en : n ≡ numbersOf g h) (form : Form) (ef : form ≡ formIn (formatOf h)) (blocked : Bool) (eb : blocked ≡ isBlocked h)
+      (lengths : List ℕ) where
+    format-is : formatFor form ≡ formatOf h
+    format-is = ap formatFor ef ∙ format-back (formatOf h)
+
+    pub level-ready : EachFits (formatOf h) (blockLength h) lengths → EachFits (formatFor form) (n .B) lengths × (n .B < 65536)
+    unfolding numbersOf
+    level-ready f = (rw (format-is, en) f, rw (en, eh) (omega (arith, low)))
+
+    -- the level behind the list, and the good records
+    module _ (v : CodeLevel) (ev : Stands v (levelFrom (formatFor form) blocked (n .B) 0 0 lengths)) (good : ℕ) (eg : good ≡ length (goodFrom g image (n .size) (n .start))) where
+      level-is : Stands v (levelOn theLabel lengths)
       unfolding numbersOf
-      level-is v h = rw (format-is, eb, en) at h
+      level-is = rw (format-is, eb, en, eh) at ev
 
-    -- the blocks that the extent holds, and the data end
-    pub held-is : (good held : ℕ) → good ≡ length (goodFrom g image (n .size) (n .start)) → held ≡ good / n .m → held ≡ blocksHeld g image theLabel
-    unfolding numbersOf blocksHeld goodRecords extent
-    held-is good held eg eh = rw (eh, eg, en)
+      held-is : good / n .m ≡ blocksHeld g image theLabel
+      unfolding numbersOf blocksHeld goodRecords extent
+      held-is = rw (eg, en, eh)
 
-    pub end-is : (start end e : Address) (blocks : ℕ) → start ≡ n .start → end ≡ endOf theLabel → e ≡ nextDataEnd g start end (n .m) (goodFrom g image (n .size) (n .start)) blocks
-        → e ≡ dataEndAfter g image theLabel blocks
-    unfolding numbersOf dataEndAfter goodRecords extent
-    end-is start end e blocks es ee h = rw (h, es, ee, en)
-
-    module _ (v : CodeLevel) (st : Stands v (levelOn theLabel lengths)) (held : ℕ) (eh : held ≡ blocksHeld g image theLabel) where
-      pub fit-stop : held < v .blocks → Stop (refuse 27 (v .blocks)) ≡ fittedBy g image slot (levelOn theLabel lengths)
+      pub fit-stop : good / n .m < v .blocks → Stop (refuse 27 (v .blocks)) ≡ fittedBy g image slot (levelOn theLabel lengths)
       unfolding fittedBy
-      fit-stop h = rw (lt-ltb (blocksHeld g image theLabel) (levelOn theLabel lengths .blocks) (omega (arith, st .1)), st .1)
+      fit-stop t = rw (lt-ltb (blocksHeld g image theLabel) (levelOn theLabel lengths .blocks) (omega (arith, level-is .1, held-is)), level-is .1)
 
-      pub fit-go : v .blocks ≤ held → (form : Form) (blocked : Bool) (e : Address) → form ≡ formIn (formatOf theLabel) → blocked ≡ isBlocked theLabel → e ≡ dataEndAfter g image theLabel (v .blocks)
-          → Go (record { first = record { at = n .start; left = n .size }; form = form; blocked = blocked; B = n .B; m = n .m; blocks = v .blocks; U = v .room; end = e })
+      pub fit-go : v .blocks ≤ good / n .m → (last end : Address) → last ≡ endOf h → end ≡ nextDataEnd g (n .start) last (n .m) (goodFrom g image (n .size) (n .start)) (v .blocks)
+          → Go (record { first = record { at = n .start; left = n .size }; form = form; blocked = blocked; B = n .B; m = n .m; blocks = v .blocks; U = v .room; end = end })
           ≡ fittedBy g image slot (levelOn theLabel lengths)
-      unfolding fittedBy planFor numbersOf
-      fit-go h form blocked e ef eb ee =
-          rw (le-ltb (blocksHeld g image theLabel) (levelOn theLabel lengths .blocks) (omega (arith, st .1)), ef, eb, ee, st .0, st .1, en)
+      unfolding fittedBy planFor numbersOf dataEndAfter goodRecords extent
+      fit-go t last end el ee =
+          rw (le-ltb (blocksHeld g image theLabel) (levelOn theLabel lengths .blocks) (omega (arith, level-is .1, held-is)), ee, el, ef, eb, level-is .0, level-is .1, en, eh)
 
--- ---- 13 TO 16, 24, AND THE REST
-past-given : (t : Bool) (r : Refusal) (rest : List Checked) → t ≡ false → inOrder (given-when t r ∷ rest) ≡ inOrder rest
-unfolding given-when inOrder
-past-given t r rest e = rw e
+-- ---- 13 TO 16 AND 24, AND THE REST
+order-more : (asked c : Checked) (rest : List Checked) → orElse asked (inOrder (c ∷ rest)) ≡ orElse (orElse asked c) (inOrder rest)
+unfolding inOrder orElse
+order-more Passed Passed rest = refl
+order-more Passed (Stopped r) rest = refl
+order-more (Stopped r) c rest = refl
 
-first-given : (t : Bool) (r : Refusal) (rest : List Checked) → t ≡ true → inOrder (given-when t r ∷ rest) ≡ Stopped r
-unfolding given-when inOrder
-first-given t r rest e = rw e
-
-module _ (g : Geometry) (image : List ℕ) (slot : ℕ) (bodies lengths : List ℕ) where
+-- by what was asked: u of the slot, then w with 24
+module _ (g : Geometry) (image : List ℕ) (slot : ℕ) (u w : Checked) (eu : u ≡ usableIn g image slot) (ew : w ≡ orElse u (refusal24 (labelAt g image slot) slot)) where
   abbrev h : List ℕ
   h = labelAt g image slot
 
-  abbrev from17 : List Checked
-  from17 = refusal17 g image h ∷ refusal25 bodies lengths ∷ refusal26 h lengths ∷ refusal27 g image h bodies lengths ∷ []
+  asked : (c : Checked) → w ≡ c → orElse (usableIn g image slot) (refusal24 h slot) ≡ c
+  asked c e = ap (λ (k : Checked). orElse k (refusal24 h slot)) (sym eu) ∙ sym ew ∙ e
 
-  row-cut : (c : Checked) → usableIn g image slot ≡ c → writeRefusal g image slot bodies lengths ≡ orElse c (inOrder (refusal24 h slot ∷ from17))
-  unfolding writeRefusal usableIn
-  row-cut c u =
-      order-append (refusal13 g image slot ∷ refusal14 h slot ∷ refusal15 h slot ∷ refusal16 h slot ∷ []) (refusal24 h slot ∷ from17)
-      ∙ ap (λ (k : Checked). orElse k (inOrder (refusal24 h slot ∷ from17))) u
+  pub plan-facts : w ≡ Passed → (hasLabel g image slot ≡ true) × (knownLevel h ≡ true)
+  plan-facts e =
+      let f = usable-facts g image slot (else-both (usableIn g image slot) (refusal24 h slot) (asked Passed e) .0) in
+      (f .0, f .1)
 
-  planned : (c : Checked) → writeRefusal g image slot bodies lengths ≡ c → planOr c (planOf g image slot bodies lengths) ≡ planIn g image slot bodies lengths
-  unfolding planIn
-  planned c e = sym (ap (λ (k : Checked). planOr k (planOf g image slot bodies lengths)) e)
+  module _ (bodies lengths : List ℕ) where
+    abbrev from17 : List Checked
+    from17 = refusal17 g image h ∷ refusal25 bodies lengths ∷ refusal26 h lengths ∷ refusal27 g image h bodies lengths ∷ []
 
-  pub plan-stop : (r : Refusal) → usableIn g image slot ≡ Stopped r → Stop r ≡ planIn g image slot bodies lengths
-  unfolding orElse
-  plan-stop r u = planned (Stopped r) (row-cut (Stopped r) u)
+    row-cut : (c : Checked) → w ≡ c → writeRefusal g image slot bodies lengths ≡ orElse c (inOrder from17)
+    unfolding writeRefusal usableIn
+    row-cut c e =
+        order-append (refusal13 g image slot ∷ refusal14 h slot ∷ refusal15 h slot ∷ refusal16 h slot ∷ []) (refusal24 h slot ∷ from17)
+        ∙ order-more (usableIn g image slot) (refusal24 h slot) from17
+        ∙ ap (λ (k : Checked). orElse k (inOrder from17)) (asked c e)
 
-  pub plan-24 : usableIn g image slot ≡ Passed → at h 43 ≡ 80 → Stop (refuse 24 slot) ≡ planIn g image slot bodies lengths
-  unfolding orElse
-  plan-24 u e = planned (Stopped (refuse 24 slot)) (row-cut Passed u ∙ first-given _ (refuse 24 slot) from17 (eq-eqb (at h 43) 80 e))
+    planned : (c : Checked) → writeRefusal g image slot bodies lengths ≡ c → planOr c (planOf g image slot bodies lengths) ≡ planIn g image slot bodies lengths
+    unfolding planIn
+    planned c e = sym (ap (λ (k : Checked). planOr k (planOf g image slot bodies lengths)) e)
 
-  pub plan-on : usableIn g image slot ≡ Passed → (at h 43 ≡ 80 → ⊥)
-      → planOr (draftRefusal g image slot bodies lengths) (planOf g image slot bodies lengths) ≡ planIn g image slot bodies lengths
-  unfolding orElse draftRefusal
-  plan-on u e = planned (inOrder from17) (row-cut Passed u ∙ past-given _ (refuse 24 slot) from17 (ne-eqb (at h 43) 80 e))
+    pub plan-stop : (r : Refusal) → w ≡ Stopped r → Stop r ≡ planIn g image slot bodies lengths
+    unfolding orElse
+    plan-stop r e = planned (Stopped r) (row-cut (Stopped r) e)
+
+    pub plan-on : w ≡ Passed → planOr (draftRefusal g image slot bodies lengths) (planOf g image slot bodies lengths) ≡ planIn g image slot bodies lengths
+    unfolding orElse draftRefusal
+    plan-on e = planned (inOrder from17) (row-cut Passed e)

@@ -109,7 +109,7 @@ module _ (g : Geometry) (image : List ℕ) (slot : ℕ) (bodies lengths : List �
       let k = passing g image slot bodies lengths w in (
         records-some image g slot bodies lengths j w,
         block-fits g theLabel r,
-        omega (arith, mul-le-mul-right (g .P) (records-few g theLabel (low image g slot j (k .labelled) (k .known) bodies lengths)), numbers-of image g j .size-high),
+        omega (arith, mul-le-mul-right (g .P) (records-few g theLabel (low image g slot j (k .labelled) (k .known))), numbers-of image g j .size-high),
         subst (λ (f : Format). EachFits f (blockLength theLabel) lengths) (sym (format-back (formatOf theLabel))) (each-fits g theLabel r 0 lengths (k .fits)),
         tiled g theLabel lengths r (k .fits),
         k .sum,

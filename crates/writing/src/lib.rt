@@ -8,6 +8,7 @@ use extents::survey;
 use extents::to_good;
 use files::Numbers;
 use files::numbers_of;
+use finding::unprotected;
 use labels::Form;
 use labels::end_of;
 use labels::form_of;
@@ -26,7 +27,6 @@ use standard::Geometry;
 use standard::Judged;
 use standard::Refusal;
 use standard::Written;
-use standard::wide;
 use volume::judge;
 use volume::refusal_of;
 ghost use mathlib.Core.Path.{_≡_};
@@ -181,16 +181,10 @@ fn plan_in(g: Geometry, image: &[u8], slot: u64, bodies: &[u8], lengths: &[u32])
     requires { ⌜ judged (now image) ≡ Judged.Volume g ⌝ }
     ensures { λ r. ⌜ r ≡ planIn g (now (image .entry)) slot (now (bodies .entry)) (now (lengths .entry)) ⌝ }
 {
-    let u = usable(g, image, slot);
-    match u {
+    let w = unprotected(g, image, slot, usable(g, image, slot));
+    match w {
         Checked::Stopped(r) => Planned::Stop(r),
-        Checked::Passed => {
-            let h = label_at(g, image, slot);
-            if wide(h[42]) == 80 {
-                return Planned::Stop(Refusal::at(24, slot));
-            }
-            drafted(g, image, slot, h, bodies, lengths)
-        }
+        Checked::Passed => drafted(g, image, slot, label_at(g, image, slot), bodies, lengths),
     }
 }
 

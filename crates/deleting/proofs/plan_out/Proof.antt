@@ -1,85 +1,20 @@
--- Each exit by its law: the tests are of the values that the calls gave.
+-- 24 behind 13 and 14.
 -- Assumes nothing.
-use Prim.Native.Nat.{ℕ}
-use mathlib.Core.Path.{sym, ap, _∙_}
-use mathlib.Core.List.{List}
-use denote.Ref.{now}
-use borrow.Author.Tests.{not-false}
-use Rattle.standard.specs.Characters.{at}
-use Rattle.standard.specs.declared.Checked.the-variants.{Stopped}
+use mathlib.Core.Path.{sym, _∙_}
 use Rattle.volume.proofs.NumberLaws.{slotted-of}
-use Rattle.finding.proofs.FindLaws.{tested, level-tested, room-there}
-use Rattle.deleting.proofs.DropLaws.{drop-13, drop-14, drop-24, drop-none}
-use borrow.Author.Needs.{needs}
+use Rattle.finding.proofs.AskLaws.{known-facts}
+use Rattle.deleting.proofs.DropLaws.{drop-list}
 use Rattle.deleting.proofs.plan_out.Statement.{statement}
 use Rattle.deleting.proofs.plan_out.Tie as tie
 
-has-label-requires : tie.Need-has-label-requires
-has-label-requires c κs = slotted-of (now (c .before .args .image)) (c .before .args .g) (c .before .pre)
+known-file-requires : tie.Need-known-file-requires
+known-file-requires c κs = slotted-of _ _ (c .before .pre)
 
-at-requires : tie.Need-at-requires
-at-requires c κs = search needs
+unprotected-requires : tie.Need-unprotected-requires
+unprotected-requires c κs = (slotted-of _ _ (c .before .before .pre), λ p. known-facts _ _ _ (sym (c .known-file .ensures) ∙ p) .0)
 
 returns : tie.Need-returns
-returns c = ap Stopped (c .at .ensures) ∙ drop-13 _ _ _ (tested _ _ _ (c .before .before .has-label .ensures) (c .before .if1 .taken))
-
-label-at-requires : tie.Need-label-at-requires
-label-at-requires c κs =
-    let x = c .before .before .before .args in
-    room-there (x .g) (now (x .image)) (x .slot) (slotted-of (now (x .image)) (x .g) (c .before .before .before .pre)) (not-false _ (tested _ _ _ (c .before .has-label .ensures) (c .if1 .left)))
-
-known-level-requires : tie.Need-known-level-requires
-known-level-requires c κs = search needs
-
-at-requires-2 : tie.Need-at-requires-2
-at-requires-2 c κs = search needs
-
-returns-2 : tie.Need-returns-2
-returns-2 c =
-    let k = c .before in
-    let a = tested _ _ _ (k .before .before .before .before .has-label .ensures) (k .before .before .before .if1 .left) in
-    ap Stopped (c .at2 .ensures) ∙ drop-14 _ _ _ a (level-tested _ _ _ _ (k .before .before .label-at .ensures .0) (k .before .known-level .ensures) (k .if2 .taken))
-
-shared-slice-read-wide : tie.Need-shared-slice-read-wide
-shared-slice-read-wide c = search needs
-
-wide-requires : tie.Need-wide-requires
-wide-requires c κs = search needs
-
-at-requires-3 : tie.Need-at-requires-3
-at-requires-3 c κs = search needs
-
-returns-3 : tie.Need-returns-3
-returns-3 c =
-    let k = c .before .before .before .before in
-    let a = tested _ _ _ (k .before .before .before .before .has-label .ensures) (k .before .before .before .if1 .left) in
-    let e = k .before .before .label-at .ensures .0 in
-    let b = level-tested _ _ _ _ e (k .before .known-level .ensures) (k .if2 .left) in
-    let p = ap (λ (h : List ℕ). at h 43) (sym e) ∙ sym (c .before .before .wide .ensures .0) in
-    ap Stopped (c .at3 .ensures) ∙ drop-24 _ _ _ a b (p ∙ c .before .if3 .taken)
-
-returns-4 : tie.Need-returns-4
-returns-4 c =
-    let k = c .before .before .before in
-    let a = tested _ _ _ (k .before .before .before .before .has-label .ensures) (k .before .before .before .if1 .left) in
-    let e = k .before .before .label-at .ensures .0 in
-    let b = level-tested _ _ _ _ e (k .before .known-level .ensures) (k .if2 .left) in
-    let p = ap (λ (h : List ℕ). at h 43) (sym e) ∙ sym (c .before .wide .ensures .0) in
-    drop-none _ _ _ a b (λ q. c .if3 .left (sym p ∙ q))
+returns c = c .unprotected .ensures ∙ drop-list _ _ _ _ (c .before .known-file .ensures)
 
 pub plan-out-spec : {M : Type 1} → statement M
-plan-out-spec =
-    tie.close
-    (tie.spec
-    has-label-requires
-    at-requires
-    returns
-    label-at-requires
-    known-level-requires
-    at-requires-2
-    returns-2
-    shared-slice-read-wide
-    wide-requires
-    at-requires-3
-    returns-3
-    returns-4)
+plan-out-spec = tie.close (tie.spec known-file-requires unprotected-requires returns)

@@ -2,8 +2,10 @@
 -- Assumes nothing.
 use mathlib.Core.Path.{refl}
 use denote.Ref.{now}
+use Rattle.opening.proofs.OpenedLaws.{open-opened}
 use Rattle.walks.specs.Walks.{modeOf}
-use Rattle.opened.proofs.CarriesLaws.{carries-going, open-opened, answer-closed, answer-going, closed-of, going-of}
+use Rattle.reading.proofs.ReplyLaws.{answer-closed, answer-going}
+use Rattle.opened.proofs.CarriesLaws.{carries-going, closed-of, going-of}
 use borrow.Author.Needs.{needs}
 use Rattle.opened.proofs.answer_on.Statement.{statement}
 use Rattle.opened.proofs.answer_on.Tie as tie
@@ -26,7 +28,7 @@ returns c =
     let c5 = c .before .before .before .before .before in
     let x = c5 .args in
     let e = closed-of (now (x .image)) (x .carried) _ (c5 .pre) (c .before .stage .given .1) in
-    let r = answer-closed (now (x .image)) (x .carried .slot) (modeOf (x .salvage)) (x .place) (now (x .out)) _ e in
+    let r = answer-closed (modeOf (x .salvage)) (now (x .image)) (x .carried .slot) (x .place) (now (x .out)) _ e in
     (r .0, r .1, c5 .pre, refl)
 
 same-length : tie.Need-same-length
@@ -39,7 +41,7 @@ returns-2 c =
     let x = c10 .args in
     let g = going-of (now (x .image)) (x .carried) _ _ (c10 .pre) (c6 .stage2 .given .1) in
     let h = c .before .before .before .read-on .ensures in
-    let r = answer-going (now (x .image)) (x .carried .slot) (modeOf (x .salvage)) (x .place) (now (x .out)) _ _ _ (g .0) (h .0, h .1) in
+    let r = answer-going (modeOf (x .salvage)) (now (x .image)) (x .carried .slot) (x .place) (now (x .out)) _ _ _ (g .0) (h .0, h .1) in
     (r .0, r .1, carries-going (now (x .image)) (x .carried .slot) _ _ (g .0) (h .2), refl)
 
 pub answer-on-spec : {M : Type 1} → statement M

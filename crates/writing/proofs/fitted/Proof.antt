@@ -1,17 +1,13 @@
 -- 27, or the plan, by the level behind the list.
 -- Assumes nothing.
 use Prim.Native.Nat.{ℕ, _/_}
-use mathlib.Core.Path.{refl, ap, subst, _∙_}
-use mathlib.Core.List.{List, []}
+use mathlib.Core.Path.{ap, _∙_}
 use native.Mathlib.Omega.{arith}
 use denote.Ref.{now}
-use Rattle.standard.specs.Labels.{formatOf, isBlocked, blockLength, endOf}
-use Rattle.promises.specs.NeededLaws.{EachFits}
-use Rattle.labels.specs.Forms.{formIn}
 use Rattle.files.specs.Numbers.{numbersOf}
 use Rattle.files.proofs.Accepted.{ready}
 use Rattle.writing.specs.declared.Planned.the-variants.{Stop}
-use Rattle.writing.proofs.PlanLaws.{block-few, level-ready, level-is, held-is, end-is, fit-stop, fit-go}
+use Rattle.writing.proofs.PlanLaws.{level-ready, fit-stop, fit-go}
 use borrow.Author.Needs.{needs}
 use Rattle.writing.proofs.fitted.Statement.{statement}
 use Rattle.writing.proofs.fitted.Tie as tie
@@ -25,35 +21,22 @@ is-blocked-requires c κs = search needs
 level-after-requires : tie.Need-level-after-requires
 level-after-requires c κs =
     let x = c .before .before .before .before .before .before in
-    let a = x .args in
     let p = x .pre in
-    let h = now (a .image) in
-    let en = p .5 ∙ ap (numbersOf (a .g)) (p .3) in
-    let f = c .before .before .form-of in
-    let b = c .before .is-blocked in
-    let ef = f .ensures ∙ ap (λ (l : List ℕ). formIn (formatOf l)) (p .3) in
-    let eb = b .ensures ∙ ap isBlocked (p .3) in
-    let fits = subst (λ (l : List ℕ). EachFits (formatOf l) (blockLength l) (now (a .lengths))) (p .3) (p .7) in
-    (level-ready h (a .g) (a .slot) (p .0) (p .1) (p .2) [] (now (a .lengths)) (a .n) en (f .result) (b .result) ef eb fits, block-few h (a .g) (a .slot) (p .0) (p .1) (p .2) [] (now (a .lengths)) (a .n) en, p .8)
+    let r = level-ready _ _ _ (p .0) (p .1) (p .2) _ (p .3) _ (p .5) _ (c .before .before .form-of .ensures) _ (c .before .is-blocked .ensures) (now (x .args .lengths)) (p .7) in
+    (r .0, r .1, p .8)
 
 good-in-requires : tie.Need-good-in-requires
 good-in-requires c κs =
     let x = c .before .before .before .before .before .before .before in
-    let a = x .args in
     let p = x .pre in
-    let h = now (a .image) in
-    let en = p .5 ∙ ap (numbersOf (a .g)) (p .3) in
-    let r = ready h (a .g) (a .slot) (p .0) (p .1) (p .2) (a .n) en in
+    let r = ready _ _ _ (p .0) (p .1) (p .2) (x .args .n) (p .5 ∙ ap (numbersOf (x .args .g)) (p .3)) in
     (r .3, r .2, p .6)
 
 div-held : tie.Need-div-held
 div-held c =
     let x = c .before .before .before .before .before .before .before .before in
-    let a = x .args in
     let p = x .pre in
-    let h = now (a .image) in
-    let en = p .5 ∙ ap (numbersOf (a .g)) (p .3) in
-    let r = ready h (a .g) (a .slot) (p .0) (p .1) (p .2) (a .n) en in
+    let r = ready (now (x .args .image)) (x .args .g) (x .args .slot) (p .0) (p .1) (p .2) (x .args .n) (p .5 ∙ ap (numbersOf (x .args .g)) (p .3)) in
     omega (arith, r .0)
 
 at-requires : tie.Need-at-requires
@@ -61,61 +44,26 @@ at-requires c κs = search needs
 
 returns : tie.Need-returns
 returns c =
-    let c5 = c .before .before .before .before .before in
-    let c6 = c5 .before in
-    let c10 = c6 .before .before .before .before in
-    let x = c10 in
-    let a = x .args in
-    let p = x .pre in
-    let h = now (a .image) in
-    let en = p .5 ∙ ap (numbersOf (a .g)) (p .3) in
-    let f = c6 .form-of in
-    let b = c5 .is-blocked in
-    let ef = f .ensures ∙ ap (λ (l : List ℕ). formIn (formatOf l)) (p .3) in
-    let eb = b .ensures ∙ ap isBlocked (p .3) in
-    let v = c .before .before .before .level-after in
-    let o = c .before .before .good-in in
-    let st = level-is h (a .g) (a .slot) (p .0) (p .1) (p .2) [] (now (a .lengths)) (a .n) en (f .result) (b .result) ef eb (v .result) (v .ensures) in
-    let eh = held-is h (a .g) (a .slot) (p .0) (p .1) (p .2) [] (now (a .lengths)) (a .n) en (o .result) (o .result / a .n .m) (o .ensures) refl in
-    ap Stop (c .at .ensures) ∙ fit-stop h (a .g) (a .slot) (p .0) (p .1) (p .2) [] (now (a .lengths)) (a .n) en (v .result) st (o .result / a .n .m) eh (c .before .if1 .taken)
+    let b = c .before .before .before .before .before in
+    let p = b .before .before .before .before .before .pre in
+    ap Stop (c .at .ensures)
+    ∙ fit-stop _ _ _ (p .0) (p .1) (p .2) _ (p .3) _ (p .5) _ (b .before .form-of .ensures) _ (b .is-blocked .ensures) _ _ (c .before .before .before .level-after .ensures) _ (c .before .before .good-in .ensures) (c .before .if1 .taken)
 
 end-of-requires : tie.Need-end-of-requires
 end-of-requires c κs = search needs
 
 data-end-requires : tie.Need-data-end-requires
 data-end-requires c κs =
-    let c10 = c .before .before .before .before .before .before .before .before .before .before in
-    let x = c10 in
-    let a = x .args in
+    let x = c .before .before .before .before .before .before .before .before .before .before in
     let p = x .pre in
-    let h = now (a .image) in
-    let en = p .5 ∙ ap (numbersOf (a .g)) (p .3) in
-    let r = ready h (a .g) (a .slot) (p .0) (p .1) (p .2) (a .n) en in
-    let o = c .before .before .good-in in
-    (r .3, r .2, p .6, r .0, ap (λ (q : ℕ). q / a .n .m) (o .ensures))
+    let r = ready _ _ _ (p .0) (p .1) (p .2) (x .args .n) (p .5 ∙ ap (numbersOf (x .args .g)) (p .3)) in
+    (r .3, r .2, p .6, r .0, ap (λ (q : ℕ). q / x .args .n .m) (c .before .before .good-in .ensures))
 
 returns-2 : tie.Need-returns-2
 returns-2 c =
-    let c6 = c .before .before .before .before .before .before in
-    let c7 = c6 .before in
-    let c11 = c7 .before .before .before .before in
-    let x = c11 in
-    let a = x .args in
-    let p = x .pre in
-    let h = now (a .image) in
-    let en = p .5 ∙ ap (numbersOf (a .g)) (p .3) in
-    let f = c7 .form-of in
-    let b = c6 .is-blocked in
-    let ef = f .ensures ∙ ap (λ (l : List ℕ). formIn (formatOf l)) (p .3) in
-    let eb = b .ensures ∙ ap isBlocked (p .3) in
-    let v = c .before .before .before .before .level-after in
-    let o = c .before .before .before .good-in in
-    let st = level-is h (a .g) (a .slot) (p .0) (p .1) (p .2) [] (now (a .lengths)) (a .n) en (f .result) (b .result) ef eb (v .result) (v .ensures) in
-    let eh = held-is h (a .g) (a .slot) (p .0) (p .1) (p .2) [] (now (a .lengths)) (a .n) en (o .result) (o .result / a .n .m) (o .ensures) refl in
-    let e = c .before .end-of in
-    let t = c .data-end in
-    let ee = end-is h (a .g) (a .slot) (p .0) (p .1) (p .2) [] (now (a .lengths)) (a .n) en (a .n .start) (e .result) (t .result) (v .result .blocks) refl (e .ensures .0 ∙ ap endOf (p .3)) (t .ensures) in
-    fit-go h (a .g) (a .slot) (p .0) (p .1) (p .2) [] (now (a .lengths)) (a .n) en (v .result) st (o .result / a .n .m) eh (c .before .before .if1 .left) (f .result) (b .result) (t .result) ef eb ee
+    let b = c .before .before .before .before .before .before in
+    let p = b .before .before .before .before .before .pre in
+    fit-go _ _ _ (p .0) (p .1) (p .2) _ (p .3) _ (p .5) _ (b .before .form-of .ensures) _ (b .is-blocked .ensures) _ _ (c .before .before .before .before .level-after .ensures) _ (c .before .before .before .good-in .ensures) (c .before .before .if1 .left) _ _ (c .before .end-of .ensures .0) (c .data-end .ensures)
 
 pub fitted-spec : {M : Type 1} → statement M
 fitted-spec =
