@@ -2,13 +2,13 @@
 -- Assumes nothing.
 use Prim.Native.Nat.{ℕ, _+_, _/_, _%_, _<_, _≤_}
 use mathlib.Core.Path.{_≡_, refl, sym, ap, subst, _∙_}
-use mathlib.Core.List.{List, [], _∷_, _++_}
+use mathlib.Core.List.{List, [], _∷_, _++_, append-assoc}
 use lib.ListN.{length, getD, take, drop, length-take, drop-of-length-le}
 use lib.Seq.{drop-cons}
 use native.Mathlib.Omega.{arith}
 use native.Mathlib.Numerals.{add-one}
 use borrow.Author.Tests.{eq-eqb, ne-eqb}
-use Rattle.standard.specs.Characters.{bytes}
+use Rattle.standard.specs.Characters.{bytes, shown}
 use Rattle.standard.specs.Records.{plain, salvage}
 use Rattle.standard.specs.declared.Place.{Place}
 use Rattle.standard.specs.declared.Refusal.{Refusal}
@@ -39,6 +39,11 @@ body-some (b ∷ bs) h = refl
 
 pub no-longer : (n : ℕ) {body : List ℕ} (out : List ℕ) → body ≡ take n out → length body ≤ length out
 no-longer n out e = let l = length-take n out in omega (arith, ap length e, l)
+
+-- a refusal's number and places in a row
+pub refused-is : (r : Refusal) → ((bytes " refused " ++ shown (r .number)) ++ (bytes " " ++ shown (r .first))) ++ (bytes " " ++ shown (r .second)) ≡ refusedFields r
+unfolding refusedFields
+refused-is r = simp append-assoc
 
 -- the fields of an answer, by what it is
 pub as-refused : {a : Answer} {r : Refusal} (out : List ℕ) → a ≡ Unanswered r → refusedFields r ≡ answerFields a out

@@ -10,10 +10,11 @@ use opened::salvage_next;
 use standard::Answer;
 use standard::Place;
 use standard::Refusal;
-use standard::wide;
 use text::put_byte;
 use text::put_bytes;
+use text::put_named;
 use text::put_number;
+use text::put_refusal;
 ghost use mathlib.Core.Path.{_≡_};
 ghost use mathlib.Core.List.{[], _∷_, _++_};
 ghost use Prim.Native.Nat.{_+_, _*_, _<_, _≤_};
@@ -25,15 +26,6 @@ ghost use Rattle.standard.specs.Reading.{readAnswer};
 ghost use Rattle.text.specs.Laid.{Puts};
 ghost use Rattle.opened.specs.Carries.{Carries, Asks};
 ghost use Rattle.following.specs.Lines.{spaced, markNumber, placeFields, hexDigit, pairOf, hexOf, bodyField, refusedFields, recordFields, answerFields, answerLine, modeOf, goesOn, nextOf, ofVolume};
-
-// A space and a number.
-fn put_spaced(out: &mut [u8], at: usize, n: u64) -> usize
-    requires { ⌜ at < 16777216 ⌝ }
-    ensures { λ r. ⌜ Puts (now (out .entry)) (now (out .exit)) at r (spaced (shown n)) × (r ≤ at + 21) ⌝ }
-{
-    let next = put_byte(out, at, 32);
-    put_number(out, next, n)
-}
 
 fn mark_number(mark: bool) -> u64
     ensures { λ r. ⌜ r ≡ markNumber mark ⌝ }
@@ -48,9 +40,9 @@ fn put_place(out: &mut [u8], at: usize, place: Place) -> usize
     requires { ⌜ at < 8388608 ⌝ }
     ensures { λ r. ⌜ Puts (now (out .entry)) (now (out .exit)) at r (placeFields place) × (r ≤ at + 63) ⌝ }
 {
-    let offset = put_spaced(out, at, place.block);
-    let mark = put_spaced(out, offset, place.offset);
-    put_spaced(out, mark, mark_number(place.mark))
+    let offset = put_named(out, at, b" ", place.block);
+    let mark = put_named(out, offset, b" ", place.offset);
+    put_named(out, mark, b" ", mark_number(place.mark))
 }
 
 fn hex_digit(n: u8) -> u8
@@ -112,18 +104,15 @@ fn put_refused(out: &mut [u8], at: usize, r: Refusal) -> usize
     requires { ⌜ at < 8192 ⌝ }
     ensures { λ e. ⌜ Puts (now (out .entry)) (now (out .exit)) at e (refusedFields r) × (e ≤ at + 71) ⌝ }
 {
-    let number = put_bytes(out, at, b" refused");
-    let first = put_spaced(out, number, wide(r.number));
-    let second = put_spaced(out, first, r.first);
-    put_spaced(out, second, r.second)
+    let second = put_refusal(out, at, b" refused ", r);
+    put_named(out, second, b" ", r.second)
 }
 
 fn put_record(out: &mut [u8], at: usize, n: u64, next: Place, body: &[u8]) -> usize
     requires { ⌜ (at < 8192) × (length (now body) ≤ 65536) ⌝ }
     ensures { λ r. ⌜ Puts (now (out .entry)) (now (out .exit)) at r (recordFields n next (now (body .entry))) × (r ≤ at + 92 + 2 * length (now (body .entry))) ⌝ }
 {
-    let number = put_bytes(out, at, b" record");
-    let place = put_spaced(out, number, n);
+    let place = put_named(out, at, b" record ", n);
     let hex = put_place(out, place, next);
     put_body(out, hex, body)
 }

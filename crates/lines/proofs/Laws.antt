@@ -22,31 +22,23 @@ use Rattle.standard.specs.declared.Judged.the-variants.{Refused, Volume}
 use Rattle.promises.specs.Judging.{accepted, not-given}
 use Rattle.standard.specs.declared.Geometry.{Geometry}
 use Rattle.standard.specs.declared.Refusal.{Refusal}
-use Rattle.lines.specs.Parts.{numbersShown, firstFields, lengthFields, extentFields, lastFields, fieldsInARow, lineIn}
+use Rattle.lines.specs.Parts.{numbersShown, firstFields, extentFields, lastFields, fieldsInARow, lineIn}
 
 -- fields and bars in a row, however they are grouped
 in-a-row : (s n : List ℕ) (l f b : ℕ) (B R st en co u e : List ℕ)
-    → (s ++ ((124 ∷ n) ++ (124 ∷ l ∷ 124 ∷ f ∷ 124 ∷ b ∷ []))) ++ (((124 ∷ B) ++ (124 ∷ R)) ++ (((124 ∷ st) ++ (124 ∷ en)) ++ ((124 ∷ co) ++ ((124 ∷ u) ++ e))))
+    → (s ++ ((124 ∷ n) ++ (124 ∷ l ∷ 124 ∷ f ∷ 124 ∷ b ∷ []))) ++ ((124 ∷ B) ++ ((124 ∷ R) ++ (((124 ∷ st) ++ (124 ∷ en)) ++ ((124 ∷ co) ++ ((124 ∷ u) ++ e)))))
     ≡ s ++ (124 ∷ (n ++ (124 ∷ l ∷ 124 ∷ f ∷ 124 ∷ b ∷ 124 ∷ (B ++ (124 ∷ (R ++ (124 ∷ (st ++ (124 ∷ (en ++ (124 ∷ (co ++ (124 ∷ (u ++ e))))))))))))))
-in-a-row s n l f b B R st en co u e =
-    let last : List ℕ = (124 ∷ co) ++ ((124 ∷ u) ++ e) in
-    let extent : List ℕ = ((124 ∷ st) ++ (124 ∷ en)) ++ last in
-    let marks : List ℕ = 124 ∷ l ∷ 124 ∷ f ∷ 124 ∷ b ∷ [] in
-    append-assoc s ((124 ∷ n) ++ marks) (((124 ∷ B) ++ (124 ∷ R)) ++ extent)
-    ∙ ap (λ (t : List ℕ). s ++ (124 ∷ t))
-    (append-assoc n marks (((124 ∷ B) ++ (124 ∷ R)) ++ extent)
-    ∙ ap (λ (t : List ℕ). n ++ (124 ∷ l ∷ 124 ∷ f ∷ 124 ∷ b ∷ 124 ∷ t))
-    (append-assoc B (124 ∷ R) extent ∙ ap (λ (t : List ℕ). B ++ (124 ∷ (R ++ (124 ∷ t)))) (append-assoc st (124 ∷ en) last)))
+in-a-row s n l f b B R st en co u e = simp append-assoc
 
-spaced : (a n f e : List ℕ) → (a ++ n) ++ ((32 ∷ f) ++ e) ≡ a ++ n ++ (32 ∷ f) ++ [] ++ e
+spaced : (a n f e : List ℕ) → ((a ++ n) ++ (32 ∷ f)) ++ e ≡ a ++ n ++ (32 ∷ f) ++ [] ++ e
 spaced a n f e = simp append-assoc
 
-spaced-two : (a n f s e : List ℕ) → (a ++ n) ++ ((32 ∷ f) ++ ((32 ∷ s) ++ e)) ≡ a ++ n ++ (32 ∷ f) ++ (32 ∷ s) ++ e
+spaced-two : (a n f s e : List ℕ) → ((a ++ n) ++ (32 ∷ f)) ++ ((32 ∷ s) ++ e) ≡ a ++ n ++ (32 ∷ f) ++ (32 ∷ s) ++ e
 spaced-two a n f s e = simp append-assoc
 
 pub known-is : (g : Geometry) (image : List ℕ) (slot : ℕ) (h : List ℕ)
     → fieldsInARow slot h (countIn g image slot) ≡ knownLine g image slot h
-unfolding fieldsInARow knownLine firstFields lengthFields extentFields lastFields
+unfolding fieldsInARow knownLine firstFields extentFields lastFields
 known-is g image slot h =
     in-a-row (shown slot) (nameOf h) (levelShown h) (formatShown (formatOf h)) (blockedShown h) (shown (blockLength h)) (shown (recordLength h))
     (fiveBytes (startOf h)) (fiveBytes (endOf h)) (countShown (countIn g image slot)) (shown (unusedCount h)) newline
@@ -57,11 +49,11 @@ unfolding otherLine extentFields
 other-is slot h = simp append-assoc
 
 pub refused-one : (r : Refusal) → eqb (r .number) 10 ≡ false
-    → (bytes "REFUSED " ++ shown (r .number)) ++ ((bytes " " ++ shown (r .first)) ++ newline) ≡ refusedLine r
+    → ((bytes "REFUSED " ++ shown (r .number)) ++ (bytes " " ++ shown (r .first))) ++ newline ≡ refusedLine r
 refused-one r h = rw h (spaced (bytes "REFUSED ") (shown (r .number)) (shown (r .first)) newline)
 
 pub refused-two : (r : Refusal) → eqb (r .number) 10 ≡ true
-    → (bytes "REFUSED " ++ shown (r .number)) ++ ((bytes " " ++ shown (r .first)) ++ ((bytes " " ++ shown (r .second)) ++ newline)) ≡ refusedLine r
+    → ((bytes "REFUSED " ++ shown (r .number)) ++ (bytes " " ++ shown (r .first))) ++ ((bytes " " ++ shown (r .second)) ++ newline) ≡ refusedLine r
 refused-two r h = rw h (spaced-two (bytes "REFUSED ") (shown (r .number)) (shown (r .first)) (shown (r .second)) newline)
 
 -- one line of a label, by its level

@@ -21,13 +21,10 @@ unfoldable pub numbersShown : Geometry → List ℕ
 numbersShown g =
     (bytes " L=" ++ shown (g .L)) ++ ((bytes " I=" ++ shown (g .I)) ++ ((bytes " D=" ++ shown (g .D)) ++ ((bytes " P=" ++ shown (g .P)) ++ (bytes " S=" ++ shown (g .S)))))
 
--- slot, name, level, format, blocked; block length and record length; start and end; blocks and unused count
+-- slot, name, level, format, blocked; start and end; blocks and unused count
 unfoldable pub firstFields : ℕ → List ℕ → List ℕ
 firstFields slot h =
-    shown slot ++ (bar (nameOf h) ++ (bar (levelShown h ∷ []) ++ (bar (formatShown (formatOf h) ∷ []) ++ bar (blockedShown h ∷ []))))
-
-unfoldable pub lengthFields : List ℕ → List ℕ
-lengthFields h = bar (shown (blockLength h)) ++ bar (shown (recordLength h))
+    shown slot ++ (bar (nameOf h) ++ (124 ∷ levelShown h ∷ 124 ∷ formatShown (formatOf h) ∷ 124 ∷ blockedShown h ∷ []))
 
 unfoldable pub extentFields : List ℕ → List ℕ
 extentFields h = bar (fiveBytes (startOf h)) ++ bar (fiveBytes (endOf h))
@@ -35,8 +32,10 @@ extentFields h = bar (fiveBytes (startOf h)) ++ bar (fiveBytes (endOf h))
 unfoldable pub lastFields : Counted → List ℕ → List ℕ
 lastFields count h = bar (countShown count) ++ (bar (shown (unusedCount h)) ++ newline)
 
+-- with block length and record length between them
 unfoldable pub fieldsInARow : ℕ → List ℕ → Counted → List ℕ
-fieldsInARow slot h count = firstFields slot h ++ (lengthFields h ++ (extentFields h ++ lastFields count h))
+fieldsInARow slot h count =
+    firstFields slot h ++ (bar (shown (blockLength h)) ++ (bar (shown (recordLength h)) ++ (extentFields h ++ lastFields count h)))
 
 -- the line of a slot, if it has a label
 abbrev pub lineIn : Geometry → List ℕ → ℕ → List ℕ

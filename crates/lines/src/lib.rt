@@ -13,16 +13,17 @@ use labels::unused_count;
 use layout::index_body;
 use layout::label_at;
 use layout::slot_count;
-use standard::Address;
 use standard::Counted;
 use standard::Geometry;
 use standard::Judged;
 use standard::Refusal;
 use standard::wide;
+use text::put_address;
 use text::put_byte;
 use text::put_bytes;
+use text::put_named;
 use text::put_number;
-use text::put_padded;
+use text::put_refusal;
 use vacancy::free_in;
 use volume::judge;
 use volume::refusal_of;
@@ -32,7 +33,6 @@ ghost use mathlib.Core.List.{[], _∷_, _++_};
 ghost use Prim.Native.Nat.{_+_, _<_, _≤_};
 ghost use lib.ListN.{length};
 ghost use Rattle.standard.specs.Characters.{shown};
-ghost use Rattle.standard.specs.Addresses.{fiveBytes};
 ghost use Rattle.standard.specs.Labels.{level, formatOf};
 ghost use Rattle.standard.specs.Layout.{slotCount, labelAt};
 ghost use Rattle.standard.specs.Slots.{hasLabel};
@@ -40,16 +40,7 @@ ghost use Rattle.standard.specs.Judgement.{judged};
 ghost use Rattle.standard.specs.Free.{freeRecords};
 ghost use Rattle.standard.specs.Listing.{volumeLine, levelShown, formatShown, blockedShown, countShown, refusedLine, otherLine, labelLine, linesFrom, listing};
 ghost use Rattle.text.specs.Laid.{Puts};
-ghost use Rattle.lines.specs.Parts.{bar, numbersShown, firstFields, lengthFields, extentFields, lastFields, fieldsInARow, lineIn};
-
-// A name and a number: ` L=5`.
-fn put_named(out: &mut [u8], at: usize, name: &[u8], n: u64) -> usize
-    requires { ⌜ (at < 16777216) × (length (now name) ≤ 8) ⌝ }
-    ensures { λ r. ⌜ Puts (now (out .entry)) (now (out .exit)) at r (now (name .entry) ++ shown n) × (r ≤ at + 28) ⌝ }
-{
-    let next = put_bytes(out, at, name);
-    put_number(out, next, n)
-}
+ghost use Rattle.lines.specs.Parts.{bar, numbersShown, firstFields, extentFields, lastFields, fieldsInARow, lineIn};
 
 // The numbers of the volume line.
 fn put_numbers(out: &mut [u8], at: usize, g: Geometry) -> usize
@@ -99,42 +90,14 @@ fn blocked_shown(h: &[u8]) -> u8
     45
 }
 
-// A bar, and a field of one character; of a number; of an address; of a count.
-fn put_character(out: &mut [u8], at: usize, c: u8) -> usize
-    requires { ⌜ at < 16777216 ⌝ }
-    ensures { λ r. ⌜ Puts (now (out .entry)) (now (out .exit)) at r (bar (c ∷ [])) × (r ≤ at + 2) ⌝ }
-{
-    let next = put_byte(out, at, 124);
-    put_byte(out, next, c)
-}
-
-fn put_amount(out: &mut [u8], at: usize, n: u64) -> usize
-    requires { ⌜ at < 16777216 ⌝ }
-    ensures { λ r. ⌜ Puts (now (out .entry)) (now (out .exit)) at r (bar (shown n)) × (r ≤ at + 21) ⌝ }
-{
-    let next = put_byte(out, at, 124);
-    put_number(out, next, n)
-}
-
-fn put_address(out: &mut [u8], at: usize, a: Address) -> usize
-    requires { ⌜ (at < 16777216) × (a .cylinder < 3000) × (a .side < 256) × (a .sector < 3000) ⌝ }
-    ensures { λ r. ⌜ Puts (now (out .entry)) (now (out .exit)) at r (bar (fiveBytes a)) × (r ≤ at + 6) ⌝ }
-{
-    let next = put_byte(out, at, 124);
-    put_padded(out, next, 5, a.cylinder * 1000 + a.side * 100 + a.sector)
-}
-
 // "Refused counts print `!17` or `!18` in place of blocks."
 fn put_count(out: &mut [u8], at: usize, count: Counted) -> usize
     requires { ⌜ at < 16777216 ⌝ }
     ensures { λ r. ⌜ Puts (now (out .entry)) (now (out .exit)) at r (bar (countShown count)) × (r ≤ at + 22) ⌝ }
 {
     match count {
-        Counted::Count(n) => put_amount(out, at, n),
-        Counted::Uncounted(r) => {
-            let next = put_character(out, at, 33);
-            put_number(out, next, wide(r.number))
-        }
+        Counted::Count(n) => put_named(out, at, b"|", n),
+        Counted::Uncounted(r) => put_named(out, at, b"|!", wide(r.number)),
     }
 }
 
@@ -146,18 +109,15 @@ fn put_first(out: &mut [u8], at: usize, slot: u64, h: &[u8]) -> usize
     let bar = put_number(out, at, slot);
     let name = put_byte(out, bar, 124);
     let level = put_bytes(out, name, &h[5..22]);
-    let format = put_character(out, level, level_shown(h));
-    let blocked = put_character(out, format, format_shown(h));
-    put_character(out, blocked, blocked_shown(h))
-}
-
-// B and R.
-fn put_lengths(out: &mut [u8], at: usize, h: &[u8]) -> usize
-    requires { ⌜ (at < 8388608) × (length (now h) ≡ 128) ⌝ }
-    ensures { λ r. ⌜ Puts (now (out .entry)) (now (out .exit)) at r (lengthFields (now (h .entry))) × (r ≤ at + 42) ⌝ }
-{
-    let next = put_amount(out, at, block_length(h));
-    put_amount(out, next, record_length(h))
+    let marks = [
+        124,
+        level_shown(h),
+        124,
+        format_shown(h),
+        124,
+        blocked_shown(h),
+    ];
+    put_bytes(out, level, &marks)
 }
 
 // Start and end.
@@ -165,8 +125,10 @@ fn put_extent(out: &mut [u8], at: usize, h: &[u8]) -> usize
     requires { ⌜ (at < 8388608) × (length (now h) ≡ 128) ⌝ }
     ensures { λ r. ⌜ Puts (now (out .entry)) (now (out .exit)) at r (extentFields (now (h .entry))) × (r ≤ at + 12) ⌝ }
 {
-    let next = put_address(out, at, start_of(h));
-    put_address(out, next, end_of(h))
+    let start = put_byte(out, at, 124);
+    let bar = put_address(out, start, start_of(h));
+    let end = put_byte(out, bar, 124);
+    put_address(out, end, end_of(h))
 }
 
 // Blocks and U, and the end of the line.
@@ -175,7 +137,7 @@ fn put_last(out: &mut [u8], at: usize, count: Counted, h: &[u8]) -> usize
     ensures { λ r. ⌜ Puts (now (out .entry)) (now (out .exit)) at r (lastFields count (now (h .entry))) × (r ≤ at + 44) ⌝ }
 {
     let next = put_count(out, at, count);
-    let end = put_amount(out, next, unused_count(h));
+    let end = put_named(out, next, b"|", unused_count(h));
     put_byte(out, end, 10)
 }
 
@@ -197,8 +159,7 @@ fn refused_line(out: &mut [u8], at: usize, r: Refusal) -> usize
     requires { ⌜ at < 4194304 ⌝ }
     ensures { λ e. ⌜ Puts (now (out .entry)) (now (out .exit)) at e (refusedLine r) × (e ≤ at + 90) ⌝ }
 {
-    let first = put_named(out, at, b"REFUSED ", wide(r.number));
-    let second = put_named(out, first, b" ", r.first);
+    let second = put_refusal(out, at, b"REFUSED ", r);
     if r.number == 10 {
         let end = put_named(out, second, b" ", r.second);
         return put_byte(out, end, 10);
@@ -224,8 +185,9 @@ fn known_line(out: &mut [u8], at: usize, slot: u64, h: &[u8], count: Counted) ->
     requires { ⌜ (at < 4194304) × (length (now h) ≡ 128) ⌝ }
     ensures { λ r. ⌜ Puts (now (out .entry)) (now (out .exit)) at r (fieldsInARow slot (now (h .entry)) count) × (r ≤ at + 148) ⌝ }
 {
-    let lengths = put_first(out, at, slot, h);
-    let extent = put_lengths(out, lengths, h);
+    let B = put_first(out, at, slot, h);
+    let R = put_named(out, B, b"|", block_length(h));
+    let extent = put_named(out, R, b"|", record_length(h));
     let last = put_extent(out, extent, h);
     put_last(out, last, count, h)
 }

@@ -31,7 +31,7 @@ pub fn put_address(image: &mut [u8], at: usize, a: Address) -> usize
     requires { ⌜ (at < 4294967296) × (at + 5 ≤ length (now image)) × (a .cylinder < 3000) × (a .side < 256) × (a .sector < 3000) ⌝ }
     ensures { λ r. ⌜ now (image .exit) ≡ splice at (fiveBytes a) (now (image .entry)) ⌝ }
 {
-    put_padded(image, at, 5, a.cylinder * 1000 + a.side * 100 + a.sector)
+    text::put_address(image, at, a)
 }
 
 // Both: U stands in positions 58-62 of the label, the data end in positions 75-79.

@@ -1,11 +1,15 @@
 // Text into a lent buffer. Each function puts its text from an index on, as far as there is room, and answers the index behind it: so texts are put one after
 // another with no test between them, and the last answer is the length of the whole. All serve the layers above: a text begins at an
 // index below 2^32 (a byte of it may stand somewhat behind that).
+use standard::Address;
+use standard::Refusal;
+use standard::wide;
 ghost use mathlib.Core.Path.{_≡_};
-ghost use mathlib.Core.List.{[], _∷_};
+ghost use mathlib.Core.List.{[], _∷_, _++_};
 ghost use Prim.Native.Nat.{_+_, _<_, _≤_};
 ghost use lib.ListN.{length};
-ghost use Rattle.standard.specs.Characters.{digitOf, padded, shown};
+ghost use Rattle.standard.specs.Characters.{bytes, digitOf, padded, shown};
+ghost use Rattle.standard.specs.Addresses.{fiveBytes};
 ghost use Rattle.text.specs.Laid.{Puts, without};
 
 pub fn put_byte(out: &mut [u8], at: usize, c: u8) -> usize
@@ -85,4 +89,30 @@ pub fn put_number(out: &mut [u8], at: usize, n: u64) -> usize
     ensures { λ r. ⌜ Puts (now (out .entry)) (now (out .exit)) at r (shown n) × (r ≤ at + 20) ⌝ }
 {
     put_padded(out, at, width_of(n), n)
+}
+
+// A text, and a number behind it: ` L=5`.
+pub fn put_named(out: &mut [u8], at: usize, name: &[u8], n: u64) -> usize
+    requires { ⌜ (at + length (now name) < 4294967296) × (length (now name) < 65536) ⌝ }
+    ensures { λ r. ⌜ Puts (now (out .entry)) (now (out .exit)) at r (now (name .entry) ++ shown n) × (r ≤ at + length (now (name .entry)) + 20) ⌝ }
+{
+    let next = put_bytes(out, at, name);
+    put_number(out, next, n)
+}
+
+// A text, and a refusal behind it: "number and each place, one space between". The second place, which not every line shows, is the caller's.
+pub fn put_refusal(out: &mut [u8], at: usize, name: &[u8], r: Refusal) -> usize
+    requires { ⌜ (at < 4294901760) × (length (now name) < 1024) ⌝ }
+    ensures { λ e. ⌜ Puts (now (out .entry)) (now (out .exit)) at e ((now (name .entry) ++ shown (r .number)) ++ (bytes " " ++ shown (r .first))) × (e ≤ at + length (now (name .entry)) + 41) ⌝ }
+{
+    let first = put_named(out, at, name, wide(r.number));
+    put_named(out, first, b" ", r.first)
+}
+
+// "Addresses have five digits"
+pub fn put_address(out: &mut [u8], at: usize, a: Address) -> usize
+    requires { ⌜ (at < 4294967296) × (a .cylinder < 3000) × (a .side < 256) × (a .sector < 3000) ⌝ }
+    ensures { λ r. ⌜ Puts (now (out .entry)) (now (out .exit)) at r (fiveBytes a) × (r ≡ at + 5) ⌝ }
+{
+    put_padded(out, at, 5, a.cylinder * 1000 + a.side * 100 + a.sector)
 }

@@ -7,14 +7,11 @@ use borrow.Author.Needs.{needs}
 use Rattle.following.proofs.put_record.Statement.{statement}
 use Rattle.following.proofs.put_record.Tie as tie
 
-slice-aggregate-put-bytes : tie.Need-slice-aggregate-put-bytes
-slice-aggregate-put-bytes c = search needs
+slice-aggregate-put-named : tie.Need-slice-aggregate-put-named
+slice-aggregate-put-named c = search needs
 
-put-bytes-requires : tie.Need-put-bytes-requires
-put-bytes-requires c κs = search needs
-
-put-spaced-requires : tie.Need-put-spaced-requires
-put-spaced-requires c κs = search needs
+put-named-requires : tie.Need-put-named-requires
+put-named-requires c κs = search needs
 
 put-place-requires : tie.Need-put-place-requires
 put-place-requires c κs = search needs
@@ -28,19 +25,17 @@ same-length c = search needs
 returns : tie.Need-returns
 unfolding recordFields
 returns c =
-    let t = c .before .before .before .before .before .before .before .before .before .before .before .before .before .before .put-bytes .ensures in
-    let p = c .before .before .before .before .before .before .before .before .before .before .put-spaced .ensures in
+    let p = c .before .before .before .before .before .before .before .before .before .before .put-named .ensures in
     let q = c .before .before .before .before .before .before .put-place .ensures in
     let b = c .before .before .put-body .ensures in
-    (puts-more t (puts-more (p .0) (puts-more (q .0) (b .0))), omega (arith, t .next, p .1, q .1, b .1))
+    (puts-more (p .0) (puts-more (q .0) (b .0)), omega (arith, p .1, q .1, b .1))
 
 pub put-record-spec : {M : Type 1} → statement M
 put-record-spec =
     tie.close
     (tie.spec
-    slice-aggregate-put-bytes
-    put-bytes-requires
-    put-spaced-requires
+    slice-aggregate-put-named
+    put-named-requires
     put-place-requires
     put-body-requires
     same-length

@@ -33,20 +33,17 @@ put-bytes-requires c κs = search needs
 level-shown-requires : tie.Need-level-shown-requires
 level-shown-requires c κs = search needs
 
-put-character-requires : tie.Need-put-character-requires
-put-character-requires c κs = search needs
-
 format-shown-requires : tie.Need-format-shown-requires
 format-shown-requires c κs = search needs
-
-put-character-requires-2 : tie.Need-put-character-requires-2
-put-character-requires-2 c κs = search needs
 
 blocked-shown-requires : tie.Need-blocked-shown-requires
 blocked-shown-requires c κs = search needs
 
-put-character-requires-3 : tie.Need-put-character-requires-3
-put-character-requires-3 c κs = search needs
+slice-aggregate-put-bytes : tie.Need-slice-aggregate-put-bytes
+slice-aggregate-put-bytes c = search needs
+
+put-bytes-requires-2 : tie.Need-put-bytes-requires-2
+put-bytes-requires-2 c κs = search needs
 
 same-length : tie.Need-same-length
 same-length c = search needs
@@ -54,16 +51,13 @@ same-length c = search needs
 returns : tie.Need-returns
 unfolding firstFields
 returns c =
-    let x = c .before .before .before .before .before .before .before .before .before .before .before .before .before .before .before .before .before .before .before .before .before .before .before .before .before .before .before .before .before .before .args in
-    let n = c .before .before .before .before .before .before .before .before .before .before .before .before .before .before .before .before .before .before .before .before .before .before .before .before .before .before .put-number .ensures in
-    let b = c .before .before .before .before .before .before .before .before .before .before .before .before .before .before .before .before .before .before .before .before .before .before .put-byte .ensures in
-    let t = c .before .before .before .before .before .before .before .before .before .before .before .before .before .before .before .before .before .put-bytes .ensures in
-    let l = c .before .before .before .before .before .before .before .before .before .before .before .before .put-character .ensures in
-    let f = c .before .before .before .before .before .before .before .put-character2 .ensures in
-    let d = c .before .before .put-character3 .ensures in
-    let name = nameOf (now (x .h)) in
-    let e : shown (x .slot) ++ (bar name ++ (bar (c .before .before .before .before .before .before .before .before .before .before .before .before .before .level-shown .result ∷ []) ++ (bar (c .before .before .before .before .before .before .before .before .format-shown .result ∷ []) ++ bar (c .before .before .before .blocked-shown .result ∷ [])))) ≡ firstFields (x .slot) (now (x .h)) = cc in
-    (puts-as e (puts-more (n .0) (puts-more b (puts-more t (puts-more (l .0) (puts-more (f .0) (d .0)))))), omega (arith, n .1, b .next, t .next, l .1, f .1, d .1))
+    let x = c .before .before .before .before .before .before .before .before .before .before .before .before .before .before .before .before .before .before .before .before .before .before .before .args in
+    let n = c .before .before .before .before .before .before .before .before .before .before .before .before .before .before .before .before .before .before .before .put-number .ensures in
+    let b = c .before .before .before .before .before .before .before .before .before .before .before .before .before .before .before .put-byte .ensures in
+    let t = c .before .before .before .before .before .before .before .before .before .before .put-bytes .ensures in
+    let m = c .before .before .put-bytes2 .ensures in
+    let e : shown (x .slot) ++ (bar (nameOf (now (x .h))) ++ (124 ∷ c .before .before .before .before .before .before .before .level-shown .result ∷ 124 ∷ c .before .before .before .before .before .before .format-shown .result ∷ 124 ∷ c .before .before .before .before .before .blocked-shown .result ∷ [])) ≡ firstFields (x .slot) (now (x .h)) = cc in
+    (puts-as e (puts-more (n .0) (puts-more b (puts-more t m))), omega (arith, n .1, b .next, t .next, m .next))
 
 pub put-first-spec : {M : Type 1} → statement M
 put-first-spec =
@@ -76,10 +70,9 @@ put-first-spec =
     part-put-bytes-end
     put-bytes-requires
     level-shown-requires
-    put-character-requires
     format-shown-requires
-    put-character-requires-2
     blocked-shown-requires
-    put-character-requires-3
+    slice-aggregate-put-bytes
+    put-bytes-requires-2
     same-length
     returns)

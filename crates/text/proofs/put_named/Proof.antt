@@ -1,10 +1,10 @@
 -- The parts in a row.
 -- Assumes nothing.
 use native.Mathlib.Omega.{arith}
 use Rattle.text.proofs.LaidLaws.{puts-more}
 use borrow.Author.Needs.{needs}
-use Rattle.lines.proofs.put_named.Statement.{statement}
-use Rattle.lines.proofs.put_named.Tie as tie
+use Rattle.text.proofs.put_named.Statement.{statement}
+use Rattle.text.proofs.put_named.Tie as tie
 
 put-bytes-requires : tie.Need-put-bytes-requires
 put-bytes-requires c κs = search needs
