@@ -10,7 +10,7 @@ use lib.Seq.{getD-drop, getD-take, length-take-le}
 use lib.Dec.{eqb, ltb, leb}
 use native.Mathlib.Omega.{arith}
 use borrow.Author.Tests.{eq-eqb, ne-eqb, lt-ltb, le-ltb, lt-leb, le-leb, eqb-true, eqb-false}
-use Rattle.standard.specs.Characters.{isDigit, digitValue}
+use Rattle.standard.specs.Characters.{between, isDigit, digitValue}
 use Rattle.standard.specs.Pieces.{Role, whole, first, middle, last, blank, broken, piece, number4, four, roleOf, isFill, mustFill, sizedV, sizedS, lookF, lookV, lookS, onlyFillV, onlyFillS}
 use Rattle.promises.specs.Basics.{by-test, either, lt-or-le, or-right}
 use Rattle.blocks.specs.Streams.{fiveOf}
@@ -266,3 +266,13 @@ module _ (low high n k : ℕ) where
     pub part-right : low ≤ z → z ≤ high → z ≤ n → Part k z ≡ partOf low high n k size
     unfolding partOf
     part-right h o m = rw is (simp (le-leb low z h, le-leb z high o, le-leb z n m))
+
+-- a segment's digit
+module _ (n c : ℕ) (size : Perhaps) where
+  pub s-not : between 48 51 c ≡ false → Broken ≡ partS n c size
+  unfolding partS
+  s-not h = rw h
+
+  pub s-is : between 48 51 c ≡ true → partOf 5 n n (c - 48) size ≡ partS n c size
+  unfolding partS
+  s-is h = rw h

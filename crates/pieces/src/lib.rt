@@ -4,6 +4,7 @@ use blocks::all_fill;
 use blocks::first_five;
 use extents::Cursor;
 use fields::Perhaps;
+use fields::in_range;
 use labels::Form;
 use standard::Geometry;
 use standard::digit;
@@ -17,7 +18,7 @@ ghost use Rattle.labels.specs.Forms.{formatFor};
 ghost use Rattle.extents.specs.Cursors.{legalAt};
 ghost use Rattle.layout.specs.Room.{Sized};
 ghost use Rattle.blocks.specs.Streams.{stream};
-ghost use Rattle.pieces.specs.Looks.{headOf, seenOf, fourRead, partF, partOf, partS};
+ghost use Rattle.pieces.specs.Looks.{headOf, seenOf, fourRead, partF, partOf};
 
 // What stands there: fill alone, or nothing; a rule is broken; a record or segment, by its `0`-`3` as a number (0 for a record of F or V, which is a whole) and
 // its size, control word counted.
@@ -125,20 +126,7 @@ fn look_v(
     sized(4, r, n, 0, four_digits(w.a, w.b, w.c, w.d))
 }
 
-// "S: `0`-`3`, four digits from 5, inside the content", where c is the first byte
-fn sized_s(n: u64, c: u64, size: Perhaps) -> Seen
-    ensures { λ x. ⌜ x ≡ partS n c size ⌝ }
-{
-    if c < 48 {
-        return Seen::Broken;
-    }
-    if 51 < c {
-        return Seen::Broken;
-    }
-    sized(5, n, n, c - 48, size)
-}
-
-// The same in S, with 5.
+// "S: `0`-`3`, four digits from 5, inside the content". Fill is as in V, with 5.
 fn look_s(g: Geometry, image: &[u8], c: Cursor, i: u64, n: u64) -> Seen
     requires { ⌜ (Sized g (now image)) × (legalAt g c ≡ true) × (i < g .P) × (n < 65536) × (n ≤ length (stream g (now image) c i)) ⌝ }
     ensures { λ x. ⌜ x ≡ seenOf (lookS (take n (stream g (now (image .entry)) c i))) ⌝ }
@@ -150,7 +138,10 @@ fn look_s(g: Geometry, image: &[u8], c: Cursor, i: u64, n: u64) -> Seen
     if w.a == 0 {
         return fill_only(g, image, c, i, n);
     }
-    sized_s(n, w.a, four_digits(w.b, w.c, w.d, w.e))
+    if !in_range(48, 51, w.a) {
+        return Seen::Broken;
+    }
+    sized(5, n, n, w.a - 48, four_digits(w.b, w.c, w.d, w.e))
 }
 
 // What stands at offset o of a block: at byte i of the record under the cursor, from which its content goes on for n bytes.
