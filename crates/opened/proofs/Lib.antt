@@ -1,3 +1,4 @@
 pub mod Asking
 pub mod CarriesLaws
 pub mod Made
+pub mod Passing
