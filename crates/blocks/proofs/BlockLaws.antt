@@ -13,9 +13,9 @@ use Rattle.standard.specs.Addresses.{ordinal}
 use Rattle.standard.specs.Files.{recordsToBlock, contentSize, bytesOf, blockOf, blocksFrom}
 use Rattle.standard.specs.declared.Geometry.{Geometry}
 use Rattle.standard.specs.declared.Address.{Address}
-use Rattle.promises.specs.Lists.{Every}
-use Rattle.promises.specs.AddressLaws.{Legal}
-use Rattle.promises.specs.FullBlocks.{body-full}
+use Rattle.promises.specs.Ground.Lists.{Every}
+use Rattle.promises.specs.Images.AddressLaws.{Legal}
+use Rattle.promises.specs.Extents.FullBlocks.{body-full}
 
 -- the blocks behind b blocks
 pub blocks-drop : (g : Geometry) (image h : List ℕ) (b left : ℕ) (more : List Address) → b ≤ left

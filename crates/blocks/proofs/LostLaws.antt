@@ -15,7 +15,7 @@ use Rattle.standard.specs.Addresses.{ordinal, stepped}
 use Rattle.standard.specs.Files.{isDefective, anyFailed}
 use Rattle.standard.specs.declared.Geometry.{Geometry}
 use Rattle.standard.specs.declared.Address.{Address}
-use Rattle.promises.specs.Basics.{by-test}
+use Rattle.promises.specs.Ground.Basics.{by-test}
 use Rattle.extents.specs.Cursors.{goodFrom, standingFrom, standing}
 use Rattle.extents.specs.declared.Cursor.{Cursor}
 use Rattle.extents.proofs.CursorLaws.{good-skip, good-first, good-none, stand-none}

@@ -13,13 +13,13 @@ use Rattle.standard.specs.Addresses.{legal, stepped, ordinal}
 use Rattle.standard.specs.Files.{addressesFrom, bytesOf}
 use Rattle.standard.specs.declared.Geometry.{Geometry}
 use Rattle.standard.specs.declared.Address.{Address}
-use Rattle.promises.specs.Basics.{and-l, and-r, either, lt-or-le}
-use Rattle.promises.specs.Lists.{Every}
-use Rattle.promises.specs.AddressLaws.{Legal}
-use Rattle.promises.specs.ExtentAddresses.{every-good}
-use Rattle.promises.specs.Splices.{part-part}
-use Rattle.promises.specs.Tiling.{address-size, address-room}
-use Rattle.promises.specs.FullBlocks.{body-full, bytes-full}
+use Rattle.promises.specs.Ground.Basics.{and-l, and-r, either, lt-or-le}
+use Rattle.promises.specs.Ground.Lists.{Every}
+use Rattle.promises.specs.Images.AddressLaws.{Legal}
+use Rattle.promises.specs.Extents.ExtentAddresses.{every-good}
+use Rattle.promises.specs.Ground.Splices.{part-part}
+use Rattle.promises.specs.Images.Tiling.{address-size, address-room}
+use Rattle.promises.specs.Extents.FullBlocks.{body-full, bytes-full}
 use Rattle.extents.specs.Cursors.{legalOn, legalAt, goodFrom, standingFrom, standing}
 use Rattle.extents.specs.declared.Cursor.{Cursor}
 use Rattle.extents.proofs.CursorLaws.{legal-head}

@@ -16,7 +16,7 @@ use Rattle.fields.specs.Numbers.{perhaps}
 use Rattle.fields.specs.declared.Perhaps.{Perhaps}
 use Rattle.fields.specs.declared.Perhaps.the-variants.{Nothing, Number}
 use Rattle.fields.proofs.PerhapsLaws.{test-holds, number-is, test-fails}
-use Rattle.promises.specs.Basics.{and-l, and-r}
+use Rattle.promises.specs.Ground.Basics.{and-l, and-r}
 use Rattle.checks.specs.Parts.{blankOr}
 
 -- tests joined

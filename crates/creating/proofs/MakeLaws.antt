@@ -19,11 +19,11 @@ use Rattle.standard.specs.declared.Created.{Created}
 use Rattle.standard.specs.declared.Created.the-variants.{Uncreated, Placed}
 use Rattle.standard.specs.declared.Judged.the-variants.{Refused, Volume}
 use Rattle.standard.specs.declared.Run.the-variants.{NoRun, RunAt}
-use Rattle.promises.specs.Basics.{never}
-use Rattle.promises.specs.AddressLaws.{parts, legal-of}
-use Rattle.promises.specs.VolumeNumbers.{Numbers, numbers-of}
-use Rattle.promises.specs.Drafts.{proposal-right, proposed-fields}
-use Rattle.promises.specs.Creations.{Creatable, creatable, creation-is}
+use Rattle.promises.specs.Ground.Basics.{never}
+use Rattle.promises.specs.Images.AddressLaws.{parts, legal-of}
+use Rattle.promises.specs.Volumes.VolumeNumbers.{Numbers, numbers-of}
+use Rattle.promises.specs.Making.Drafts.{proposal-right, proposed-fields}
+use Rattle.promises.specs.Making.Creations.{Creatable, creatable, creation-is}
 use Rattle.layout.specs.Room.{Room}
 use Rattle.volume.proofs.NumberLaws.{slotted-of}
 use Rattle.finding.specs.Slot.{slotNamed}

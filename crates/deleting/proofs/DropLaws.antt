@@ -18,8 +18,8 @@ use Rattle.standard.specs.declared.Checked.the-variants.{Passed, Stopped}
 use Rattle.standard.specs.declared.Counted.{Counted}
 use Rattle.standard.specs.declared.Counted.the-variants.{Uncounted, Count}
 use Rattle.standard.specs.declared.Judged.the-variants.{Refused, Volume}
-use Rattle.promises.specs.AcceptedLaws.{has-slot}
-use Rattle.promises.specs.Deletions.{deletable, deletion-is}
+use Rattle.promises.specs.Volumes.AcceptedLaws.{has-slot}
+use Rattle.promises.specs.Making.Deletions.{deletable, deletion-is}
 use Rattle.finding.specs.Slot.{knownFile}
 use Rattle.finding.proofs.AskLaws.{known-first}
 

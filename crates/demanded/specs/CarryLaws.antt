@@ -30,16 +30,16 @@ use Rattle.standard.specs.declared.Checked.{Checked}
 use Rattle.standard.specs.declared.Checked.the-variants.{Passed, Stopped}
 use Rattle.standard.specs.declared.Judged.{Judged}
 use Rattle.standard.specs.declared.Judged.the-variants.{Volume}
-use Rattle.promises.specs.Basics.{either, lt-or-le, by-test, never}
-use Rattle.promises.specs.Lists.{every-at}
-use Rattle.promises.specs.AddressLaws.{rank-lt, step-rank, step-legal}
-use Rattle.promises.specs.AcceptedLaws.{InRange, bounds-extent}
-use Rattle.promises.specs.ExtentAddresses.{Rising, Between, rising-every, good-rising}
-use Rattle.promises.specs.ExtentWhole.{extent-has}
-use Rattle.promises.specs.DataEnds.{later-at}
-use Rattle.promises.specs.WriteEnds.{end-of-some, end-of-all, record-there}
-use Rattle.promises.specs.Following.{Heard, told, onward, following, heardIn}
-use Rattle.promises.specs.Refusing.{replyOn}
+use Rattle.promises.specs.Ground.Basics.{either, lt-or-le, by-test, never}
+use Rattle.promises.specs.Ground.Lists.{every-at}
+use Rattle.promises.specs.Images.AddressLaws.{rank-lt, step-rank, step-legal}
+use Rattle.promises.specs.Volumes.AcceptedLaws.{InRange, bounds-extent}
+use Rattle.promises.specs.Extents.ExtentAddresses.{Rising, Between, rising-every, good-rising}
+use Rattle.promises.specs.Extents.ExtentWhole.{extent-has}
+use Rattle.promises.specs.Writing.DataEnds.{later-at}
+use Rattle.promises.specs.Writing.WriteEnds.{end-of-some, end-of-all, record-there}
+use Rattle.promises.specs.Reading.Following.{Heard, told, onward, following, heardIn}
+use Rattle.promises.specs.Refusals.Refusing.{replyOn}
 use Rattle.promises.specs.Demands.{reading-gives}
 
 -- one of a list stands somewhere in it

@@ -29,13 +29,13 @@ use Rattle.standard.specs.declared.Found.{Found}
 use Rattle.standard.specs.declared.Found.the-variants.{Unfound, At}
 use Rattle.standard.specs.declared.Counted.{Counted}
 use Rattle.standard.specs.declared.Counted.the-variants.{Uncounted, Count}
-use Rattle.promises.specs.Basics.{never}
-use Rattle.promises.specs.Refusing.{Exactly}
-use Rattle.promises.specs.VolumeNumbers.{Numbers, numbers-of, image-range}
-use Rattle.promises.specs.VolumePromises.{RecordInRange}
-use Rattle.promises.specs.FindingLaws.{find-slot as found-in-slot, slot-handed-out}
-use Rattle.promises.specs.FreeLaws.{extentsBelow}
-use Rattle.promises.specs.Sectors.{AgreeOn, sectorOf}
+use Rattle.promises.specs.Ground.Basics.{never}
+use Rattle.promises.specs.Refusals.Refusing.{Exactly}
+use Rattle.promises.specs.Volumes.VolumeNumbers.{Numbers, numbers-of, image-range}
+use Rattle.promises.specs.Volumes.VolumePromises.{RecordInRange}
+use Rattle.promises.specs.Volumes.FindingLaws.{find-slot as found-in-slot, slot-handed-out}
+use Rattle.promises.specs.Volumes.FreeLaws.{extentsBelow}
+use Rattle.promises.specs.Images.Sectors.{AgreeOn, sectorOf}
 use Rattle.promises.specs.Demands.{extents-in-range, sharing-no-record, extent-is, finding-gives, label-given, free-gives, locality, write-counts}
 use Rattle.promises.specs.Instances.{demo, demoVolume, demoBodies, demoLengths, demo-accepted}
 use Rattle.demanded.specs.Calls.{Response, Meets, ByName, InSlot, named, inSlot, judge, find, find-slot, label-named, label-in-slot, free, count, contract}

@@ -9,7 +9,7 @@ use Rattle.standard.specs.declared.Geometry.{Geometry}
 use Rattle.standard.specs.declared.Place.{Place}
 use Rattle.standard.specs.declared.Counted.{Counted}
 use Rattle.standard.specs.declared.Found.{Found}
-use Rattle.promises.specs.OthersStay.{AsBefore}
+use Rattle.promises.specs.Making.OthersStay.{AsBefore}
 use Rattle.demanded.specs.Calls.{Response, Meets, InSlot, inSlot, ask, give, find-slot, count, contract}
 use Rattle.demanded.specs.Called.{alike}
 use Rattle.demanded.specs.Readers.{Reader, Reads}

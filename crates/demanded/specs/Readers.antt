@@ -24,16 +24,16 @@ use Rattle.standard.specs.declared.Answer.{Answer}
 use Rattle.standard.specs.declared.Answer.the-variants.{Unanswered, Gap, End, Record as RecordOf}
 use Rattle.standard.specs.declared.Checked.the-variants.{Passed}
 use Rattle.standard.specs.declared.Judged.the-variants.{Volume}
-use Rattle.promises.specs.Basics.{never}
-use Rattle.promises.specs.ReadingRefused.{LostIn}
-use Rattle.promises.specs.ReadingLaws.{bodyOf}
-use Rattle.promises.specs.Following.{Heard, told, gapAt, done, refused, onward, following, heard, heardIn, Fits}
-use Rattle.promises.specs.AnyPlace.{listedFrom}
-use Rattle.promises.specs.Sectors.{AgreeOn, sectorOf}
-use Rattle.promises.specs.Failing.{Failed, Spares, ReadsWhole, gone, expected}
-use Rattle.promises.specs.Failable.{failedAt}
-use Rattle.promises.specs.PlainFailed.{FirstGone, NoneGone, cutAt}
-use Rattle.promises.specs.Runs.{AfterDropped}
+use Rattle.promises.specs.Ground.Basics.{never}
+use Rattle.promises.specs.Refusals.ReadingRefused.{LostIn}
+use Rattle.promises.specs.Reading.ReadingLaws.{bodyOf}
+use Rattle.promises.specs.Reading.Following.{Heard, told, gapAt, done, refused, onward, following, heard, heardIn, Fits}
+use Rattle.promises.specs.Reading.AnyPlace.{listedFrom}
+use Rattle.promises.specs.Images.Sectors.{AgreeOn, sectorOf}
+use Rattle.promises.specs.Salvage.Failing.{Failed, Spares, ReadsWhole, gone, expected}
+use Rattle.promises.specs.Salvage.Failable.{failedAt}
+use Rattle.promises.specs.Salvage.PlainFailed.{FirstGone, NoneGone, cutAt}
+use Rattle.promises.specs.Reading.Runs.{AfterDropped}
 use Rattle.promises.specs.Demands.{gap-stays, end-stays, record-stays, reading-gives, reading-gives-from, record-leads, gap-leads, end-leads, salvage-gives, plain-gives, never-joined, joined-rightly, locality}
 use Rattle.promises.specs.Instances.{image, output, geometry, computed}
 use Rattle.demanded.specs.Calls.{Response, Meets, Asked, ask, read, contract}

@@ -35,19 +35,19 @@ use Rattle.standard.specs.declared.Judged.{Judged}
 use Rattle.standard.specs.declared.Judged.the-variants.{Volume}
 use Rattle.standard.specs.declared.Written.{Written}
 use Rattle.standard.specs.declared.Written.the-variants.{Unwritten, Blocks}
-use Rattle.promises.specs.Basics.{never, either, eq-or-not}
-use Rattle.promises.specs.AddressLaws.{parts, step-rank}
-use Rattle.promises.specs.AcceptedLaws.{InRange, has-slot}
-use Rattle.promises.specs.ReadBack.{enough-records}
-use Rattle.promises.specs.AcceptedWrite.{passing, label-range, after-is}
-use Rattle.promises.specs.WrittenLabel.{records-some, new-end}
-use Rattle.promises.specs.WriteEnds.{end-of-none, end-of-some, end-of-all, end-behind}
-use Rattle.promises.specs.WritingPromises.{joined, answers, labels-stay, needing-again}
-use Rattle.promises.specs.WrittenHeard.{RoomFor, toldIn, written-heard-in, written-whole}
-use Rattle.promises.specs.ByteSectors.{MayChange}
-use Rattle.promises.specs.Refusing.{Exactly, order-first, first-order, accepted-write}
-use Rattle.promises.specs.Following.{told, done, following}
-use Rattle.promises.specs.Failing.{Failed, Spares}
+use Rattle.promises.specs.Ground.Basics.{never, either, eq-or-not}
+use Rattle.promises.specs.Images.AddressLaws.{parts, step-rank}
+use Rattle.promises.specs.Volumes.AcceptedLaws.{InRange, has-slot}
+use Rattle.promises.specs.Writing.ReadBack.{enough-records}
+use Rattle.promises.specs.Writing.AcceptedWrite.{passing, label-range, after-is}
+use Rattle.promises.specs.Writing.WrittenLabel.{records-some, new-end}
+use Rattle.promises.specs.Writing.WriteEnds.{end-of-none, end-of-some, end-of-all, end-behind}
+use Rattle.promises.specs.Writing.WritingPromises.{joined, answers, labels-stay, needing-again}
+use Rattle.promises.specs.Writing.WrittenHeard.{RoomFor, toldIn, written-heard-in, written-whole}
+use Rattle.promises.specs.Images.ByteSectors.{MayChange}
+use Rattle.promises.specs.Refusals.Refusing.{Exactly, order-first, first-order, accepted-write}
+use Rattle.promises.specs.Reading.Following.{told, done, following}
+use Rattle.promises.specs.Salvage.Failing.{Failed, Spares}
 use Rattle.promises.specs.Demands.{write-list, write-counts, write-reads-back, write-changes-no-more, write-sets, write-stays-accepted, others-stay, finding-stays}
 use Rattle.promises.specs.Instances.{demo, demoVolume, demoBodies, demoLengths, demo-accepted, demo-heard}
 use Rattle.demanded.specs.Calls.{Response, Meets, ByName, InSlot, Given, named, inSlot, ask, give, judge, find, find-slot, free, count, read, write, contract}

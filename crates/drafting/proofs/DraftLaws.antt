@@ -12,8 +12,8 @@ use Rattle.standard.specs.Labels.{knownLevel, labelFault}
 use Rattle.standard.specs.Creating.{blank, proposed, proposalFault}
 use Rattle.standard.specs.declared.Geometry.{Geometry}
 use Rattle.standard.specs.declared.Address.{Address}
-use Rattle.promises.specs.Drafts.{givenLaid, extentLaid, proposed-laid}
-use Rattle.promises.specs.AddedRows.{added, right-length}
+use Rattle.promises.specs.Making.Drafts.{givenLaid, extentLaid, proposed-laid}
+use Rattle.promises.specs.Making.AddedRows.{added, right-length}
 
 -- the fields given and the extent, over spaces
 pub draft-is : (w : List ℕ) (start end : Address) (given label : List ℕ) → length w ≡ 29 → given ≡ givenLaid w (blank 128)

@@ -10,8 +10,8 @@ ghost use Prim.Native.Nat.{_+_, _-_, _<_, _≤_};
 ghost use lib.ListN.{length, take, drop};
 ghost use Rattle.standard.specs.Writing.{splice};
 ghost use Rattle.standard.specs.Creating.{proposed, proposalFault};
-ghost use Rattle.promises.specs.AddedRows.{added};
-ghost use Rattle.promises.specs.Drafts.{givenLaid, extentLaid};
+ghost use Rattle.promises.specs.Making.AddedRows.{added};
+ghost use Rattle.promises.specs.Making.Drafts.{givenLaid, extentLaid};
 
 // Bytes of those wanted, from a on and before e, over the label's from an index on.
 fn lay_field(label: &mut [u8], at: usize, wanted: &[u8], a: usize, e: usize)

@@ -13,8 +13,8 @@ use Rattle.standard.specs.Files.{addressesFrom}
 use Rattle.standard.specs.Writing.{nextDataEnd}
 use Rattle.standard.specs.declared.Geometry.{Geometry}
 use Rattle.standard.specs.declared.Address.{Address}
-use Rattle.promises.specs.ExtentWhole.{from-length}
-use Rattle.promises.specs.Sizes.{good-few}
+use Rattle.promises.specs.Extents.ExtentWhole.{from-length}
+use Rattle.promises.specs.Bounds.Sizes.{good-few}
 use Rattle.extents.specs.Cursors.{goodFrom, standing}
 use Rattle.extents.specs.declared.Cursor.{Cursor}
 

@@ -10,8 +10,8 @@ use Rattle.standard.specs.Writing.{needed, writeRefusal, dataEndAfter}
 use Rattle.standard.specs.declared.Geometry.{Geometry}
 use Rattle.standard.specs.declared.Checked.the-variants.{Passed}
 use Rattle.standard.specs.declared.Judged.the-variants.{Volume}
-use Rattle.promises.specs.VolumeNumbers.{numbers-of}
-use Rattle.promises.specs.WrittenLabel.{ends}
+use Rattle.promises.specs.Volumes.VolumeNumbers.{numbers-of}
+use Rattle.promises.specs.Writing.WrittenLabel.{ends}
 
 -- an address, or the one past the last: at most cylinder L+1 of a volume whose numbers are small
 pub end-small : (image : List ℕ) (g : Geometry) (slot : ℕ) (bodies lengths : List ℕ) → judged image ≡ Volume g → writeRefusal g image slot bodies lengths ≡ Passed

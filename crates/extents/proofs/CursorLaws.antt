@@ -15,7 +15,7 @@ use Rattle.standard.specs.Addresses.{legal, stepped, ordinal}
 use Rattle.standard.specs.Files.{addressesFrom, goodAmong, isDefective, isWrong}
 use Rattle.standard.specs.declared.Geometry.{Geometry}
 use Rattle.standard.specs.declared.Address.{Address}
-use Rattle.promises.specs.Basics.{by-test, and-l, and-r, or-l, or-r}
+use Rattle.promises.specs.Ground.Basics.{by-test, and-l, and-r, or-l, or-r}
 use Rattle.extents.specs.Cursors.{legalOn, goodFrom, standing}
 use Rattle.extents.specs.declared.Cursor.{Cursor}
 

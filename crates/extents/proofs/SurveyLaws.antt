@@ -13,7 +13,7 @@ use Rattle.standard.specs.declared.Geometry.{Geometry}
 use Rattle.standard.specs.declared.Address.{Address}
 use Rattle.standard.specs.Refusals.{refuse}
 use Rattle.standard.specs.declared.Checked.the-variants.{Passed, Stopped}
-use Rattle.promises.specs.Basics.{by-test, or-l, or-r}
+use Rattle.promises.specs.Ground.Basics.{by-test, or-l, or-r}
 use Rattle.extents.specs.Surveys.{surveyed}
 use Rattle.extents.specs.declared.Condition.{Condition}
 use Rattle.extents.specs.declared.Condition.the-variants.{Wrong, Whole, Holed}

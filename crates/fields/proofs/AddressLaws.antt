@@ -11,7 +11,7 @@ use Rattle.standard.specs.Addresses.{fiveDigits, addressIn, fiveRead, legal, is
 use Rattle.standard.specs.declared.Geometry.{Geometry}
 use Rattle.standard.specs.declared.Address.{Address}
 use Rattle.standard.specs.declared.FiveDigits.the-variants.{NotDigits, Digits}
-use Rattle.promises.specs.Basics.{and-l, and-r}
+use Rattle.promises.specs.Ground.Basics.{and-l, and-r}
 use Rattle.fields.proofs.LoopLaws.{digit-most}
 
 module _ (f : List ℕ) where

@@ -9,7 +9,7 @@ use native.Mathlib.Omega.{arith}
 use native.Mathlib.Nat.{eq-or-lt-of-le}
 use borrow.Author.Tests.{le-leb, lt-leb, ne-eqb}
 use Rattle.standard.specs.Characters.{aSet}
-use Rattle.promises.specs.Basics.{and-l, and-r}
+use Rattle.promises.specs.Ground.Basics.{and-l, and-r}
 
 pub below-set : (c : ℕ) → c < 32 → false ≡ aSet c
 unfolding aSet

@@ -12,7 +12,7 @@ use lib.Dec.{eqb, leb}
 use lib.ListN.{length, drop, getD, drop-of-length-le}
 use lib.Seq.{drop-cons}
 use Rattle.standard.specs.Characters.{every, same, isDigit, digitValue, numberFrom}
-use Rattle.promises.specs.Basics.{and-r}
+use Rattle.promises.specs.Ground.Basics.{and-r}
 
 module _ (test : ℕ → Bool) (s : List ℕ) (i : ℕ) where
   pub every-more : i < length s → not (test (getD s i 0)) ≡ false → every test (drop i s) ≡ every test (drop (i + 1) s)

@@ -13,11 +13,11 @@ use Rattle.standard.specs.Slots.{hasLabel}
 use Rattle.standard.specs.Judgement.{judged}
 use Rattle.standard.specs.declared.Geometry.{Geometry}
 use Rattle.standard.specs.declared.Judged.the-variants.{Volume}
-use Rattle.promises.specs.AddressLaws.{rank-lt}
-use Rattle.promises.specs.AcceptedLaws.{label-faultless, label-in-range}
-use Rattle.promises.specs.LabelRules.{data-end-behind}
-use Rattle.promises.specs.VolumeNumbers.{numbers-of}
-use Rattle.promises.specs.FullBlocks.{records-one}
+use Rattle.promises.specs.Images.AddressLaws.{rank-lt}
+use Rattle.promises.specs.Volumes.AcceptedLaws.{label-faultless, label-in-range}
+use Rattle.promises.specs.Volumes.LabelRules.{data-end-behind}
+use Rattle.promises.specs.Volumes.VolumeNumbers.{numbers-of}
+use Rattle.promises.specs.Extents.FullBlocks.{records-one}
 use Rattle.volume.proofs.NumberLaws.{slotted-of}
 use Rattle.extents.specs.Cursors.{legalOn}
 use Rattle.files.specs.Numbers.{numbersOf}

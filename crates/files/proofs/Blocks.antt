@@ -15,11 +15,11 @@ use Rattle.standard.specs.Refusals.{given-when, inOrder}
 use Rattle.standard.specs.Files.{addressesFrom, extentSize, extent, isDefective, goodAmong, goodRecords, recordsToBlock, countBefore, goodBefore, dataEndAtStart, dataEndInExtent, blocksHeld, blockCount, refusal17, splitsBlock, refusal18, countOr}
 use Rattle.standard.specs.declared.Geometry.{Geometry}
 use Rattle.standard.specs.declared.Address.{Address}
-use Rattle.promises.specs.Basics.{either, lt-or-le, by-test}
-use Rattle.promises.specs.Lists.{Every}
-use Rattle.promises.specs.AddressLaws.{Legal, step-rank}
-use Rattle.promises.specs.AcceptedLaws.{InRange}
-use Rattle.promises.specs.ExtentAddresses.{extent-legal}
+use Rattle.promises.specs.Ground.Basics.{either, lt-or-le, by-test}
+use Rattle.promises.specs.Ground.Lists.{Every}
+use Rattle.promises.specs.Images.AddressLaws.{Legal, step-rank}
+use Rattle.promises.specs.Volumes.AcceptedLaws.{InRange}
+use Rattle.promises.specs.Extents.ExtentAddresses.{extent-legal}
 use Rattle.extents.specs.Cursors.{legalOn, goodFrom}
 use Rattle.extents.specs.Surveys.{surveyed}
 use Rattle.extents.specs.declared.Condition.{Condition}

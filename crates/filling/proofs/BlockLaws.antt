@@ -13,12 +13,12 @@ use Rattle.standard.specs.Packing.{fill}
 use Rattle.standard.specs.Writing.{splice, filledTo, storeRecord, storeBlock, storeBlocks}
 use Rattle.standard.specs.declared.Geometry.{Geometry}
 use Rattle.standard.specs.declared.Address.{Address}
-use Rattle.promises.specs.Basics.{either, lt-or-le}
-use Rattle.promises.specs.Lists.{Every, every-take, every-drop}
-use Rattle.promises.specs.Splices.{filled-length}
-use Rattle.promises.specs.StoreLaws.{store-splice}
-use Rattle.promises.specs.Storing.{store-length, block-length}
-use Rattle.promises.specs.Tiling.{address-room}
+use Rattle.promises.specs.Ground.Basics.{either, lt-or-le}
+use Rattle.promises.specs.Ground.Lists.{Every, every-take, every-drop}
+use Rattle.promises.specs.Ground.Splices.{filled-length}
+use Rattle.promises.specs.Writing.StoreLaws.{store-splice}
+use Rattle.promises.specs.Writing.Storing.{store-length, block-length}
+use Rattle.promises.specs.Images.Tiling.{address-room}
 use Rattle.layout.specs.Room.{Sized}
 use Rattle.filling.specs.Poured.{poured, flat}
 use Rattle.filling.proofs.PenLaws.{poured-nothing, poured-nowhere, poured-first}

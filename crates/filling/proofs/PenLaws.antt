@@ -14,9 +14,9 @@ use Rattle.standard.specs.Addresses.{legal, ordinal, stepped}
 use Rattle.standard.specs.Writing.{splice}
 use Rattle.standard.specs.declared.Geometry.{Geometry}
 use Rattle.standard.specs.declared.Address.{Address}
-use Rattle.promises.specs.Splices.{splice-length}
-use Rattle.promises.specs.StoreLaws.{splice-join}
-use Rattle.promises.specs.Tiling.{address-room}
+use Rattle.promises.specs.Ground.Splices.{splice-length}
+use Rattle.promises.specs.Writing.StoreLaws.{splice-join}
+use Rattle.promises.specs.Images.Tiling.{address-room}
 use Rattle.extents.specs.Cursors.{legalOn, legalAt, goodFrom, standing}
 use Rattle.extents.specs.declared.Cursor.{Cursor}
 use Rattle.extents.proofs.CursorLaws.{legal-head, legal-next, defect-none, good-stand, good-none, stand-next, stand-none}

@@ -12,9 +12,9 @@ use borrow.Author.Tests.{leb-true, leb-false}
 use native.Mathlib.Numerals.{add-one}
 use Rattle.standard.specs.Packing.{fill}
 use Rattle.standard.specs.Writing.{splice}
-use Rattle.promises.specs.Basics.{by-test}
-use Rattle.promises.specs.Splices.{splice-length}
-use Rattle.promises.specs.StoreLaws.{splice-join}
+use Rattle.promises.specs.Ground.Basics.{by-test}
+use Rattle.promises.specs.Ground.Splices.{splice-length}
+use Rattle.promises.specs.Writing.StoreLaws.{splice-join}
 use Rattle.filling.specs.Poured.{packed}
 
 pub splice-none : (o : ℕ) (s : List ℕ) → splice o [] s ≡ s

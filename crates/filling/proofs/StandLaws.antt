@@ -13,13 +13,13 @@ use Rattle.standard.specs.Files.{addressesFrom}
 use Rattle.standard.specs.Writing.{splice}
 use Rattle.standard.specs.declared.Geometry.{Geometry}
 use Rattle.standard.specs.declared.Address.{Address}
-use Rattle.promises.specs.Basics.{and-l, and-r}
-use Rattle.promises.specs.Lists.{Every, every-map}
-use Rattle.promises.specs.Splices.{Outside, splice-length, splice-outside}
-use Rattle.promises.specs.AddressLaws.{step-rank}
-use Rattle.promises.specs.Tiling.{sector-outside, address-size, address-room, addresses-apart}
-use Rattle.promises.specs.SectorLaws.{sector-from-bytes}
-use Rattle.promises.specs.ExtentReads.{SameSector, SameDefect, same-defect, same-good}
+use Rattle.promises.specs.Ground.Basics.{and-l, and-r}
+use Rattle.promises.specs.Ground.Lists.{Every, every-map}
+use Rattle.promises.specs.Ground.Splices.{Outside, splice-length, splice-outside}
+use Rattle.promises.specs.Images.AddressLaws.{step-rank}
+use Rattle.promises.specs.Images.Tiling.{sector-outside, address-size, address-room, addresses-apart}
+use Rattle.promises.specs.Images.SectorLaws.{sector-from-bytes}
+use Rattle.promises.specs.Extents.ExtentReads.{SameSector, SameDefect, same-defect, same-good}
 use Rattle.extents.specs.Cursors.{legalOn, legalAt, standingFrom, standing}
 use Rattle.extents.specs.declared.Cursor.{Cursor}
 use Rattle.extents.proofs.CursorLaws.{first-legal}

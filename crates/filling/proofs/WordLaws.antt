@@ -8,8 +8,8 @@ use lib.Seq.{drop-cons, take-all}
 use native.Mathlib.Omega.{arith}
 use Rattle.standard.specs.Characters.{digitOf, padded}
 use Rattle.standard.specs.Writing.{splice}
-use Rattle.promises.specs.Splices.{splice-length}
-use Rattle.promises.specs.StoreLaws.{splice-join}
+use Rattle.promises.specs.Ground.Splices.{splice-length}
+use Rattle.promises.specs.Writing.StoreLaws.{splice-join}
 use Rattle.filling.specs.Poured.{packed, wordS}
 use Rattle.filling.proofs.RunLaws.{set-splice, splice-more}
 

@@ -16,7 +16,7 @@ use Rattle.standard.specs.declared.Geometry.{Geometry}
 use Rattle.standard.specs.declared.Refusal.{Refusal}
 use Rattle.standard.specs.declared.Checked.{Checked}
 use Rattle.standard.specs.declared.Checked.the-variants.{Passed, Stopped}
-use Rattle.promises.specs.Judging.{order-each, order-append, not-given}
+use Rattle.promises.specs.Volumes.Judging.{order-each, order-append, not-given}
 use Rattle.layout.specs.Room.{Room}
 use Rattle.index.specs.Whole.{Slotted}
 use Rattle.finding.specs.Slot.{knownFile}

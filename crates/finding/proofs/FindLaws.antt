@@ -19,8 +19,8 @@ use Rattle.standard.specs.declared.Refusal.{Refusal}
 use Rattle.standard.specs.declared.Judged.the-variants.{Refused, Volume}
 use Rattle.standard.specs.declared.Found.{Found}
 use Rattle.standard.specs.declared.Found.the-variants.{Unfound, At}
-use Rattle.promises.specs.Basics.{by-test}
-use Rattle.promises.specs.AcceptedLaws.{has-slot}
+use Rattle.promises.specs.Ground.Basics.{by-test}
+use Rattle.promises.specs.Volumes.AcceptedLaws.{has-slot}
 use Rattle.layout.specs.Room.{Room}
 use Rattle.index.specs.Whole.{Slotted}
 use Rattle.index.proofs.NameLaws.{knownIn}

@@ -15,9 +15,9 @@ use Rattle.standard.specs.Reading.{readAnswer}
 use Rattle.standard.specs.declared.Place.{Place}
 use Rattle.standard.specs.declared.Answer.{Answer}
 use Rattle.standard.specs.declared.Answer.the-variants.{Unanswered, Record, Gap, End}
-use Rattle.promises.specs.PackedLaws.{find-room}
-use Rattle.promises.specs.MadeSizes.{create-low}
-use Rattle.promises.specs.ReadingSizes.{AnswerSmall, reading-small}
+use Rattle.promises.specs.Bounds.PackedLaws.{find-room}
+use Rattle.promises.specs.Bounds.MadeSizes.{create-low}
+use Rattle.promises.specs.Bounds.ReadingSizes.{AnswerSmall, reading-small}
 use Rattle.packing.specs.Room.{FoundFits, AnswerFits, CreatedFits}
 
 pub found-fits : (image name : List ℕ) → FoundFits (found image name)

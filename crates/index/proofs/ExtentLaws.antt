@@ -17,10 +17,10 @@ use Rattle.standard.specs.Labels.{startOf, endOf}
 use Rattle.standard.specs.Slots.{isLabel}
 use Rattle.standard.specs.Judgement.{overlap, shares, clashesBelow}
 use Rattle.standard.specs.declared.Geometry.{Geometry}
-use Rattle.promises.specs.Basics.{either}
-use Rattle.promises.specs.AddressLaws.{rank-lt}
-use Rattle.promises.specs.AcceptedLaws.{fault-none}
-use Rattle.promises.specs.Judging.{label-right}
+use Rattle.promises.specs.Ground.Basics.{either}
+use Rattle.promises.specs.Images.AddressLaws.{rank-lt}
+use Rattle.promises.specs.Volumes.AcceptedLaws.{fault-none}
+use Rattle.promises.specs.Volumes.Judging.{label-right}
 use Rattle.index.specs.Whole.{Slotted}
 use Rattle.index.specs.declared.Extent.{Extent}
 use Rattle.index.specs.Extents.{startIn, endIn, extentIn, Known, meets}

@@ -13,8 +13,8 @@ use Rattle.standard.specs.Labels.{knownLevel, nameOf}
 use Rattle.standard.specs.Slots.{isLabel}
 use Rattle.standard.specs.Judgement.{sameName, namesake, clashesBelow}
 use Rattle.standard.specs.declared.Geometry.{Geometry}
-use Rattle.promises.specs.Basics.{by-test, and-r}
-use Rattle.promises.specs.FindingLaws.{same-equal}
+use Rattle.promises.specs.Ground.Basics.{by-test, and-r}
+use Rattle.promises.specs.Volumes.FindingLaws.{same-equal}
 use Rattle.index.specs.Names.{twoFrom, fourFrom, eightFrom, keyOf, keyIn, Keyed}
 use Rattle.index.proofs.ClashLaws.{below-none}
 use Rattle.index.proofs.ExtentLaws.{row-more}

@@ -17,7 +17,7 @@ use Rattle.standard.specs.Slots.{isLabel, isDeleted, isUnreadable, slotRefusal,
 use Rattle.standard.specs.declared.Geometry.{Geometry}
 use Rattle.standard.specs.declared.Checked.{Checked}
 use Rattle.standard.specs.declared.Checked.the-variants.{Passed, Stopped}
-use Rattle.promises.specs.Basics.{by-test, and-l, and-r}
+use Rattle.promises.specs.Ground.Basics.{by-test, and-l, and-r}
 use Rattle.layout.proofs.Laws.{k-first}
 
 -- position 1 of the table is `HDR1`, and no other row stands there

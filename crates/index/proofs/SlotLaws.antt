@@ -11,9 +11,9 @@ use Rattle.standard.specs.Layout.{indexSectors, kindAt, validMark, slotCount, s
 use Rattle.standard.specs.Slots.{isLabel, isDeleted, slotRefusal}
 use Rattle.standard.specs.declared.Geometry.{Geometry}
 use Rattle.standard.specs.declared.Checked.the-variants.{Passed}
-use Rattle.promises.specs.Basics.{by-test}
-use Rattle.promises.specs.SectorLaws.{valid-correct}
-use Rattle.promises.specs.Judging.{order-each, not-given, slots-each}
+use Rattle.promises.specs.Ground.Basics.{by-test}
+use Rattle.promises.specs.Images.SectorLaws.{valid-correct}
+use Rattle.promises.specs.Volumes.Judging.{order-each, not-given, slots-each}
 use Rattle.layout.proofs.Laws.{k-first}
 use Rattle.index.specs.Whole.{Slotted}
 

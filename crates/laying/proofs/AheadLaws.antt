@@ -13,10 +13,10 @@ use borrow.Author.Tests.{le-leb, lt-leb, leb-false}
 use Rattle.standard.specs.Labels.{fixed, variable, spanned}
 use Rattle.standard.specs.Packing.{Laid, then, thenNext, fill, placeIf, recordV, lay, layOne, segment, segmentRole, spreadIf, spread, least, startIf, layS, packIn}
 use Rattle.standard.specs.Writing.{filledTo}
-use Rattle.promises.specs.Lists.{Every}
-use Rattle.promises.specs.NeededLaws.{least-for}
-use Rattle.promises.specs.WritingPromises.{joined}
-use Rattle.promises.specs.WritingLaws.{segment-length, recordV-length, least-five, goes-on}
+use Rattle.promises.specs.Ground.Lists.{Every}
+use Rattle.promises.specs.Writing.NeededLaws.{least-for}
+use Rattle.promises.specs.Writing.WritingPromises.{joined}
+use Rattle.promises.specs.Writing.WritingLaws.{segment-length, recordV-length, least-five, goes-on}
 use Rattle.filling.specs.Poured.{flat}
 use Rattle.filling.proofs.RunLaws.{take-over, drop-over}
 use Rattle.laying.specs.Ahead.{flatLaid, layFrom, fitsAs, chunked, chunks}

@@ -20,10 +20,10 @@ use Rattle.standard.specs.declared.Geometry.{Geometry}
 use Rattle.labels.specs.Forms.{formatFor}
 use Rattle.labels.specs.declared.Form.{Form}
 use Rattle.labels.specs.declared.Form.the-variants.{Fixed, Variable, Spanned}
-use Rattle.promises.specs.Lists.{Every}
-use Rattle.promises.specs.NeededLaws.{leastFor, least-for, EachFits}
-use Rattle.promises.specs.StoreLaws.{total-drop}
-use Rattle.promises.specs.WritingPromises.{parted-lengths, parted-joined}
+use Rattle.promises.specs.Ground.Lists.{Every}
+use Rattle.promises.specs.Writing.NeededLaws.{leastFor, least-for, EachFits}
+use Rattle.promises.specs.Writing.StoreLaws.{total-drop}
+use Rattle.promises.specs.Writing.WritingPromises.{parted-lengths, parted-joined}
 use Rattle.standard.specs.declared.Address.{Address}
 use Rattle.extents.specs.Cursors.{standing}
 use Rattle.extents.specs.declared.Cursor.{Cursor}

@@ -9,8 +9,8 @@ use lib.Dec.{leb}
 use Rattle.standard.specs.Packing.{Laid, fill, placeIf, recordV, least, startIf, spread}
 use Rattle.standard.specs.Writing.{filledTo}
 use Rattle.standard.specs.declared.Geometry.{Geometry}
-use Rattle.promises.specs.Lists.{Every}
-use Rattle.promises.specs.NeededLaws.{leastFor}
+use Rattle.promises.specs.Ground.Lists.{Every}
+use Rattle.promises.specs.Writing.NeededLaws.{leastFor}
 use Rattle.filling.specs.Poured.{flat, laidBy, Placed, Lays}
 use Rattle.laying.specs.declared.Shape.{Shape}
 use Rattle.laying.specs.declared.Desk.{Desk}

@@ -13,7 +13,7 @@ use Rattle.standard.specs.Refusals.{refuse}
 use Rattle.standard.specs.Judgement.{legalKind, kindsFrom, refusal6}
 use Rattle.standard.specs.declared.Geometry.{Geometry}
 use Rattle.standard.specs.declared.Checked.the-variants.{Passed, Stopped}
-use Rattle.promises.specs.Basics.{either, lt-or-le, by-test}
+use Rattle.promises.specs.Ground.Basics.{either, lt-or-le, by-test}
 use Rattle.layout.specs.Runs.{kindOf, legalRun}
 use Rattle.layout.proofs.Laws.{offset-first, offset-later, k-first, k-later}
 

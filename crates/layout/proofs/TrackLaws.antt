@@ -13,8 +13,8 @@ use Rattle.standard.specs.Layout.{indexSectors, kAt, kindOffset, bodyOffset, im
 use Rattle.standard.specs.Addresses.{legal, ordinal, stepped}
 use Rattle.standard.specs.declared.Geometry.{Geometry}
 use Rattle.standard.specs.declared.Address.{Address}
-use Rattle.promises.specs.AddressLaws.{Parts, parts, from-parts, address, ordinal-is, ordinal-ge, Step, sector-on, side-on, cylinder-on, step-is}
-use Rattle.promises.specs.Tiling.{size-data, next-sector, address-room}
+use Rattle.promises.specs.Images.AddressLaws.{Parts, parts, from-parts, address, ordinal-is, ordinal-ge, Step, sector-on, side-on, cylinder-on, step-is}
+use Rattle.promises.specs.Images.Tiling.{size-data, next-sector, address-room}
 
 -- the parts of a legal address are small
 pub legal-small : (g : Geometry) (a : Address) → g .L < 256 → g .S < 256 → g .D < 256 → legal g a ≡ true

@@ -19,7 +19,7 @@ use Rattle.standard.specs.Files.{countIn}
 use Rattle.standard.specs.Listing.{newline, levelShown, formatShown, blockedShown, countShown, volumeLine, knownLine, otherLine, labelLine, linesFrom, refusedLine, listing}
 use Rattle.standard.specs.Judgement.{judged}
 use Rattle.standard.specs.declared.Judged.the-variants.{Refused, Volume}
-use Rattle.promises.specs.Judging.{accepted, not-given}
+use Rattle.promises.specs.Volumes.Judging.{accepted, not-given}
 use Rattle.standard.specs.declared.Geometry.{Geometry}
 use Rattle.standard.specs.declared.Refusal.{Refusal}
 use Rattle.lines.specs.Parts.{numbersShown, firstFields, extentFields, lastFields, fieldsInARow, lineIn}

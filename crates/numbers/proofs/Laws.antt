@@ -14,9 +14,9 @@ use Rattle.standard.specs.Defects.{isCylinder, cylinderIn, ermapRule7, ermapRul
 use Rattle.standard.specs.declared.Geometry.{Geometry}
 use Rattle.numbers.specs.Numbers.{defected}
 use Rattle.fields.proofs.LoopLaws.{digit-most}
-use Rattle.promises.specs.Basics.{either, lt-or-le, by-test, and-l, and-r, or-rest}
-use Rattle.promises.specs.Judging.{rows-each}
-use Rattle.promises.specs.VolumeNumbers.{hex-bounds, kinds-few}
+use Rattle.promises.specs.Ground.Basics.{either, lt-or-le, by-test, and-l, and-r, or-rest}
+use Rattle.promises.specs.Volumes.Judging.{rows-each}
+use Rattle.promises.specs.Volumes.VolumeNumbers.{hex-bounds, kinds-few}
 
 -- "d2 ≤ L+1", without the sum
 pub at-most : (d l : ℕ) → leb (d - 1) l ≡ leb d (l + 1)

@@ -19,9 +19,9 @@ use Rattle.standard.specs.declared.Checked.the-variants.{Passed, Stopped}
 use Rattle.standard.specs.declared.Judged.the-variants.{Volume}
 use Rattle.standard.specs.declared.Counted.{Counted}
 use Rattle.standard.specs.declared.Counted.the-variants.{Uncounted, Count}
-use Rattle.promises.specs.Basics.{never}
-use Rattle.promises.specs.Judging.{order-each, order-append, not-given}
-use Rattle.promises.specs.AcceptedLaws.{label-in-range}
+use Rattle.promises.specs.Ground.Basics.{never}
+use Rattle.promises.specs.Volumes.Judging.{order-each, order-append, not-given}
+use Rattle.promises.specs.Volumes.AcceptedLaws.{label-in-range}
 use Rattle.labels.specs.Forms.{formIn}
 use Rattle.finding.specs.Slot.{knownFile}
 use Rattle.finding.proofs.FindLaws.{tested}

@@ -25,16 +25,16 @@ use Rattle.standard.specs.declared.Checked.{Checked}
 use Rattle.standard.specs.declared.Checked.the-variants.{Passed, Stopped}
 use Rattle.standard.specs.declared.Judged.{Judged}
 use Rattle.standard.specs.declared.Judged.the-variants.{Refused, Volume}
-use Rattle.promises.specs.Basics.{either, lt-or-le, by-test, and-l, and-r, never}
-use Rattle.promises.specs.Lists.{Every, every-drop, take-short}
-use Rattle.promises.specs.AddressLaws.{Legal, rank-lt}
-use Rattle.promises.specs.AcceptedLaws.{image-length, label-in-range}
-use Rattle.promises.specs.LabelRules.{Rules, Shape, isF, isV, isS, shape, unused-below, fixed-low}
-use Rattle.promises.specs.VolumeNumbers.{numbers-of}
-use Rattle.promises.specs.ExtentAddresses.{good-legal}
-use Rattle.promises.specs.FullBlocks.{count-held, open-label, open-rules, block-low, records-one, records-few, content-fits, SoundFile, sound-file, block-size}
-use Rattle.promises.specs.SalvageImage.{file-count}
-use Rattle.promises.specs.Sizes.{addresses-few, blocks-few}
+use Rattle.promises.specs.Ground.Basics.{either, lt-or-le, by-test, and-l, and-r, never}
+use Rattle.promises.specs.Ground.Lists.{Every, every-drop, take-short}
+use Rattle.promises.specs.Images.AddressLaws.{Legal, rank-lt}
+use Rattle.promises.specs.Volumes.AcceptedLaws.{image-length, label-in-range}
+use Rattle.promises.specs.Volumes.LabelRules.{Rules, Shape, isF, isV, isS, shape, unused-below, fixed-low}
+use Rattle.promises.specs.Volumes.VolumeNumbers.{numbers-of}
+use Rattle.promises.specs.Extents.ExtentAddresses.{good-legal}
+use Rattle.promises.specs.Extents.FullBlocks.{count-held, open-label, open-rules, block-low, records-one, records-few, content-fits, SoundFile, sound-file, block-size}
+use Rattle.promises.specs.Salvage.SalvageImage.{file-count}
+use Rattle.promises.specs.Bounds.Sizes.{addresses-few, blocks-few}
 use Rattle.fields.proofs.LoopLaws.{digit-most}
 use Rattle.labels.specs.Forms.{formIn, formatFor, format-back}
 use Rattle.labels.specs.declared.Form.the-variants.{Fixed}

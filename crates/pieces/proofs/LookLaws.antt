@@ -10,7 +10,7 @@ use lib.Dec.{leb}
 use native.Mathlib.Omega.{arith}
 use borrow.Author.Tests.{leb-true}
 use Rattle.standard.specs.Pieces.{Role, whole, first, middle, last, Piece, blank, broken, piece, four, roleOf, isFill, mustFill, onlyFillV, onlyFillS, sizedV, sizedS, lookF, lookV, lookS, lookIn}
-use Rattle.promises.specs.Basics.{and-l, and-r, never}
+use Rattle.promises.specs.Ground.Basics.{and-l, and-r, never}
 use Rattle.labels.specs.Forms.{formatFor}
 use Rattle.labels.specs.declared.Form.{Form}
 use Rattle.labels.specs.declared.Form.the-variants.{Fixed, Variable, Spanned}

@@ -12,7 +12,7 @@ use native.Mathlib.Omega.{arith}
 use borrow.Author.Tests.{eq-eqb, ne-eqb, lt-ltb, le-ltb, lt-leb, le-leb, eqb-true, eqb-false}
 use Rattle.standard.specs.Characters.{between, isDigit, digitValue}
 use Rattle.standard.specs.Pieces.{Role, whole, first, middle, last, blank, broken, piece, number4, four, roleOf, isFill, mustFill, sizedV, sizedS, lookF, lookV, lookS, onlyFillV, onlyFillS}
-use Rattle.promises.specs.Basics.{by-test, either, lt-or-le, or-right}
+use Rattle.promises.specs.Ground.Basics.{by-test, either, lt-or-le, or-right}
 use Rattle.blocks.specs.Streams.{fiveOf}
 use Rattle.blocks.specs.declared.Five.{Five}
 use Rattle.fields.specs.declared.Perhaps.{Perhaps}

@@ -34,30 +34,30 @@ use Rattle.standard.specs.declared.Counted.the-variants.{Uncounted, Count}
 use Rattle.standard.specs.declared.Found.the-variants.{Unfound, At}
 use Rattle.standard.specs.declared.Judged.the-variants.{Refused, Volume}
 use Rattle.standard.specs.declared.Written.the-variants.{Unwritten, Blocks}
-use Rattle.promises.specs.Refusing.{Exactly, First, accepted-write, volume-first, volume-stops, count-first, write-first, refusal-lays-nothing, gap-lays-nothing, end-lays-nothing, refusal-writes-nothing}
-use Rattle.promises.specs.VolumePromises.{RecordInRange, extent-in-range, no-record-shared}
-use Rattle.promises.specs.Sectors.{AgreeOn, sectorOf}
-use Rattle.promises.specs.Following.{following, told, done as ended, heardIn}
-use Rattle.promises.specs.Failing.{Failed, OfBlocks, ReadsWhole, Salvaged, Spares, expected}
-use Rattle.promises.specs.ReadingLaws.{bodyOf}
+use Rattle.promises.specs.Refusals.Refusing.{Exactly, First, accepted-write, volume-first, volume-stops, count-first, write-first, refusal-lays-nothing, gap-lays-nothing, end-lays-nothing, refusal-writes-nothing}
+use Rattle.promises.specs.Volumes.VolumePromises.{RecordInRange, extent-in-range, no-record-shared}
+use Rattle.promises.specs.Images.Sectors.{AgreeOn, sectorOf}
+use Rattle.promises.specs.Reading.Following.{following, told, done as ended, heardIn}
+use Rattle.promises.specs.Salvage.Failing.{Failed, OfBlocks, ReadsWhole, Salvaged, Spares, expected}
+use Rattle.promises.specs.Reading.ReadingLaws.{bodyOf}
 use Rattle.promises.specs.Promises.{LocalityPromise, locality-promise}
-use Rattle.promises.specs.PlainFailed.{PlainlyRead, PlainFailedAnyPromise, plain-failed-any-promise}
-use Rattle.promises.specs.WritingPromises.{joined, answers, length-stays, accepted-still, unused-set, end-set, records-are, counts, writing-again, writing-stays, readings-stay, counts-stay, names-stay, slots-stay, free-stays}
-use Rattle.promises.specs.WrittenHeard.{RoomFor, written-heard-all}
-use Rattle.promises.specs.ByteSectors.{MayChange, write-changes}
-use Rattle.promises.specs.FindingLaws.{find-named, find-none, label-handed-out}
-use Rattle.promises.specs.FreeLaws.{extentsBelow, free-counted, free-is}
-use Rattle.promises.specs.ReadingRefused.{readList, read-first, record-laid, record-next, gap-next, end-next, LostIn}
-use Rattle.promises.specs.AnyPlace.{listedFrom, following-from}
-use Rattle.promises.specs.FollowingLaws.{following-any}
-use Rattle.promises.specs.ExtentWhole.{extent-exactly, refused-shares}
-use Rattle.promises.specs.AcceptedLaws.{label-in-range}
-use Rattle.promises.specs.WriteEnds.{end-of-none, end-of-all, end-behind}
-use Rattle.promises.specs.AcceptedWrite.{label-range}
-use Rattle.promises.specs.WrittenLabel.{records-some}
-use Rattle.promises.specs.SalvagedHeard.{SalvageHeardPromise, salvage-heard-promise, NeverJoinedAnyPromise, never-joined-any-promise}
-use Rattle.promises.specs.SalvageImage.{only-blocks}
-use Rattle.promises.specs.Runs.{AfterDropped, record-stands}
+use Rattle.promises.specs.Salvage.PlainFailed.{PlainlyRead, PlainFailedAnyPromise, plain-failed-any-promise}
+use Rattle.promises.specs.Writing.WritingPromises.{joined, answers, length-stays, accepted-still, unused-set, end-set, records-are, counts, writing-again, writing-stays, readings-stay, counts-stay, names-stay, slots-stay, free-stays}
+use Rattle.promises.specs.Writing.WrittenHeard.{RoomFor, written-heard-all}
+use Rattle.promises.specs.Images.ByteSectors.{MayChange, write-changes}
+use Rattle.promises.specs.Volumes.FindingLaws.{find-named, find-none, label-handed-out}
+use Rattle.promises.specs.Volumes.FreeLaws.{extentsBelow, free-counted, free-is}
+use Rattle.promises.specs.Refusals.ReadingRefused.{readList, read-first, record-laid, record-next, gap-next, end-next, LostIn}
+use Rattle.promises.specs.Reading.AnyPlace.{listedFrom, following-from}
+use Rattle.promises.specs.Reading.FollowingLaws.{following-any}
+use Rattle.promises.specs.Extents.ExtentWhole.{extent-exactly, refused-shares}
+use Rattle.promises.specs.Volumes.AcceptedLaws.{label-in-range}
+use Rattle.promises.specs.Writing.WriteEnds.{end-of-none, end-of-all, end-behind}
+use Rattle.promises.specs.Writing.AcceptedWrite.{label-range}
+use Rattle.promises.specs.Writing.WrittenLabel.{records-some}
+use Rattle.promises.specs.Salvage.SalvagedHeard.{SalvageHeardPromise, salvage-heard-promise, NeverJoinedAnyPromise, never-joined-any-promise}
+use Rattle.promises.specs.Salvage.SalvageImage.{only-blocks}
+use Rattle.promises.specs.Reading.Runs.{AfterDropped, record-stands}
 
 -- ======== DEMAND 1
 -- "Every image, name, place and length is taken, untested by the caller." Each definition below is a function of any lists of bytes and any numbers, so

@@ -34,16 +34,16 @@ use Rattle.standard.specs.declared.Checked.the-variants.{Passed}
 use Rattle.standard.specs.declared.Written.the-variants.{Blocks}
 use Rattle.standard.specs.declared.Counted.the-variants.{Uncounted, Count}
 use Rattle.standard.specs.declared.Created.the-variants.{Uncreated, Placed}
-use Rattle.promises.specs.Sectors.{sectorOf}
-use Rattle.promises.specs.ReadingLaws.{bodyOf, Reads}
-use Rattle.promises.specs.Following.{told, gapAt, done, following, refused}
-use Rattle.promises.specs.Failing.{Failed, recordsOf, OfBlocks, ReadsWhole, Salvaged, gone, anyHit}
-use Rattle.promises.specs.Failable.{failedAt, failedIn, among, some-fail}
+use Rattle.promises.specs.Images.Sectors.{sectorOf}
+use Rattle.promises.specs.Reading.ReadingLaws.{bodyOf, Reads}
+use Rattle.promises.specs.Reading.Following.{told, gapAt, done, following, refused}
+use Rattle.promises.specs.Salvage.Failing.{Failed, recordsOf, OfBlocks, ReadsWhole, Salvaged, gone, anyHit}
+use Rattle.promises.specs.Salvage.Failable.{failedAt, failedIn, among, some-fail}
 use Rattle.promises.specs.Promises.{SalvagePromise, salvage-promise}
-use Rattle.promises.specs.WritingPromises.{reads}
-use Rattle.promises.specs.PlainFailed.{FirstGone, ReadUpTo, plain-up-to}
-use Rattle.promises.specs.WrittenHeard.{written-heard}
-use Rattle.promises.specs.NeededLaws.{neededFrom, spreadTo}
+use Rattle.promises.specs.Writing.WritingPromises.{reads}
+use Rattle.promises.specs.Salvage.PlainFailed.{FirstGone, ReadUpTo, plain-up-to}
+use Rattle.promises.specs.Writing.WrittenHeard.{written-heard}
+use Rattle.promises.specs.Writing.NeededLaws.{neededFrom, spreadTo}
 
 -- a sector of 128 bytes with a valid mark: some bytes, and spaces behind them
 abbrev sector : List ℕ → List ℕ

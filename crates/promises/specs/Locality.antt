@@ -17,14 +17,14 @@ use Rattle.standard.specs.declared.Geometry.{Geometry}
 use Rattle.standard.specs.declared.Place.{Place}
 use Rattle.standard.specs.declared.Checked.the-variants.{Stopped}
 use Rattle.standard.specs.declared.Judged.the-variants.{Volume}
-use Rattle.promises.specs.Basics.{by-test}
-use Rattle.promises.specs.Lists.{Every}
-use Rattle.promises.specs.Tiling.{lengths}
-use Rattle.promises.specs.Sectors.{sectorAt, AgreeOn, inIndex, sectorOf}
-use Rattle.promises.specs.AcceptedLaws.{has-slot}
-use Rattle.promises.specs.VolumeNumbers.{Numbers, numbers-of}
-use Rattle.promises.specs.IndexLaws.{index-label, index-has, index-judged}
-use Rattle.promises.specs.ExtentReads.{every-sector, SameSector, same-wrongs, same-held, same-count, same-splits, same-good-records, same-file}
+use Rattle.promises.specs.Ground.Basics.{by-test}
+use Rattle.promises.specs.Ground.Lists.{Every}
+use Rattle.promises.specs.Images.Tiling.{lengths}
+use Rattle.promises.specs.Images.Sectors.{sectorAt, AgreeOn, inIndex, sectorOf}
+use Rattle.promises.specs.Volumes.AcceptedLaws.{has-slot}
+use Rattle.promises.specs.Volumes.VolumeNumbers.{Numbers, numbers-of}
+use Rattle.promises.specs.Volumes.IndexLaws.{index-label, index-has, index-judged}
+use Rattle.promises.specs.Extents.ExtentReads.{every-sector, SameSector, same-wrongs, same-held, same-count, same-splits, same-good-records, same-file}
 
 -- the same file in a slot of two images
 pub record SameFile (g : Geometry) (image image′ : List ℕ) (slot : ℕ) : Type 0 where

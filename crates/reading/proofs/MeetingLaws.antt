@@ -12,7 +12,7 @@ use Rattle.standard.specs.Files.{anyFailed}
 use Rattle.standard.specs.Records.{State, fresh, marked, within, Met, took, gapped, ended, refused, atEnd}
 use Rattle.standard.specs.Reading.{laidOver}
 use Rattle.standard.specs.declared.Place.{Place}
-use Rattle.promises.specs.SalvageImage.{file-count}
+use Rattle.promises.specs.Salvage.SalvageImage.{file-count}
 use Rattle.opening.specs.Opened.{labelIn, fileOf, Opened}
 use Rattle.opening.specs.declared.FileNumbers.{FileNumbers}
 use Rattle.opening.proofs.OpenedLaws.{facts}

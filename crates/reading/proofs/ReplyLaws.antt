@@ -24,8 +24,8 @@ use Rattle.standard.specs.declared.Judged.{Judged}
 use Rattle.standard.specs.declared.Judged.the-variants.{Refused, Volume}
 use Rattle.standard.specs.declared.Answer.{Answer}
 use Rattle.standard.specs.declared.Answer.the-variants.{Unanswered, Record as RecordOf}
-use Rattle.promises.specs.Basics.{by-test, and-l, and-r, never}
-use Rattle.promises.specs.SalvageImage.{file-count}
+use Rattle.promises.specs.Ground.Basics.{by-test, and-l, and-r, never}
+use Rattle.promises.specs.Salvage.SalvageImage.{file-count}
 use Rattle.labels.specs.Forms.{formatFor}
 use Rattle.labels.specs.declared.Form.{Form}
 use Rattle.labels.specs.declared.Form.the-variants.{Fixed, Variable, Spanned}

@@ -16,7 +16,7 @@ use Rattle.standard.specs.Writing.{splice, unusedField, setLabel}
 use Rattle.standard.specs.Creating.{storeSlot}
 use Rattle.standard.specs.declared.Geometry.{Geometry}
 use Rattle.standard.specs.declared.Address.{Address}
-use Rattle.promises.specs.Digits.{padded-length}
+use Rattle.promises.specs.Ground.Digits.{padded-length}
 use Rattle.text.specs.Laid.{laid, Puts}
 use Rattle.text.proofs.LaidLaws.{laid-byte}
 

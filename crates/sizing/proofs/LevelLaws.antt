@@ -16,10 +16,10 @@ use Rattle.standard.specs.Labels.{Format, formatOf, blockLength, recordLength}
 use Rattle.standard.specs.Writing.{total, wrongIn, wrongLength, lengthsFrom}
 use Rattle.standard.specs.declared.Checked.{Checked}
 use Rattle.standard.specs.declared.Checked.the-variants.{Passed, Stopped}
-use Rattle.promises.specs.Basics.{either, eq-or-not}
-use Rattle.promises.specs.Lists.{every-at}
-use Rattle.promises.specs.StoreLaws.{total-drop}
-use Rattle.promises.specs.NeededLaws.{Level as LevelOf, levelOf, placedWhole, spreadTo, leastFor, placedSpanned, placed, levelFrom, level-next, least-most, six-left, FitsIn, EachFits}
+use Rattle.promises.specs.Ground.Basics.{either, eq-or-not}
+use Rattle.promises.specs.Ground.Lists.{every-at}
+use Rattle.promises.specs.Writing.StoreLaws.{total-drop}
+use Rattle.promises.specs.Writing.NeededLaws.{Level as LevelOf, levelOf, placedWhole, spreadTo, leastFor, placedSpanned, placed, levelFrom, level-next, least-most, six-left, FitsIn, EachFits}
 use Rattle.sizing.specs.Lists.{wrongFrom, Stands}
 use Rattle.sizing.specs.declared.Level.{Level}
 

@@ -9,7 +9,7 @@ use Rattle.standard.specs.Labels.{Format}
 use Rattle.standard.specs.Writing.{wrongIn}
 use Rattle.standard.specs.declared.Checked.{Checked}
 use Rattle.standard.specs.declared.Checked.the-variants.{Passed, Stopped}
-use Rattle.promises.specs.NeededLaws.{Level as LevelOf}
+use Rattle.promises.specs.Writing.NeededLaws.{Level as LevelOf}
 use Rattle.sizing.specs.declared.Level.{Level}
 
 -- 26 "F length not R; V length+4 over R; S length over R (R not 0000), or not 0 with B = 5", record, from 0: by the format, B and R alone

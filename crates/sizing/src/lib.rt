@@ -8,7 +8,7 @@ ghost use Prim.Native.Nat.{suc, _+_, _<_, _≤_};
 ghost use lib.Dec.{eqb};
 ghost use lib.ListN.{length, getD};
 ghost use Rattle.standard.specs.Writing.{total, wrongIn};
-ghost use Rattle.promises.specs.NeededLaws.{placedWhole, spreadTo, leastFor, placedSpanned, placed, levelFrom, FitsIn, EachFits};
+ghost use Rattle.promises.specs.Writing.NeededLaws.{placedWhole, spreadTo, leastFor, placedSpanned, placed, levelFrom, FitsIn, EachFits};
 ghost use Rattle.labels.specs.Forms.{formatFor};
 ghost use Rattle.sizing.specs.Lists.{wrongFrom, Stands};
 

@@ -9,7 +9,7 @@ use native.Mathlib.Nat.{pow-suc}
 use native.Mathlib.Numerals.{add-one}
 use borrow.Author.Tests.{lt-ltb, le-ltb}
 use Rattle.standard.specs.Characters.{digitOf, padded, shownBy, shown}
-use Rattle.promises.specs.Basics.{either, lt-or-le}
+use Rattle.promises.specs.Ground.Basics.{either, lt-or-le}
 use Rattle.text.specs.Laid.{without}
 
 -- so many digits: the first of them, then the others

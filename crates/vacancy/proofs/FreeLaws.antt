@@ -17,7 +17,7 @@ use Rattle.standard.specs.declared.Geometry.{Geometry}
 use Rattle.standard.specs.declared.Refusal.{Refusal}
 use Rattle.standard.specs.declared.Judged.the-variants.{Refused, Volume}
 use Rattle.standard.specs.declared.Counted.the-variants.{Uncounted, Count}
-use Rattle.promises.specs.FreeLaws.{extentsBelow, free-counted, free-is}
+use Rattle.promises.specs.Volumes.FreeLaws.{extentsBelow, free-counted, free-is}
 use Rattle.index.specs.Extents.{startIn, endIn}
 
 -- a slot with no label has the size 0

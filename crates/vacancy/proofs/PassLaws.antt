@@ -17,11 +17,11 @@ use Rattle.standard.specs.Creating.{deletedFrom, lowestDeleted, lowestRun}
 use Rattle.standard.specs.declared.Geometry.{Geometry}
 use Rattle.standard.specs.declared.Judged.the-variants.{Volume}
 use Rattle.standard.specs.declared.Run.the-variants.{RunAt}
-use Rattle.promises.specs.Basics.{either, lt-or-le, by-test}
-use Rattle.promises.specs.AcceptedLaws.{has-slot, label-in-range}
-use Rattle.promises.specs.FreeLaws.{has-label}
-use Rattle.promises.specs.RunsFree.{Searched, room-skip, room-here, deleted-next, deleted-end}
-use Rattle.promises.specs.SlotSplices.{deleted-unless}
+use Rattle.promises.specs.Ground.Basics.{either, lt-or-le, by-test}
+use Rattle.promises.specs.Volumes.AcceptedLaws.{has-slot, label-in-range}
+use Rattle.promises.specs.Volumes.FreeLaws.{has-label}
+use Rattle.promises.specs.Making.RunsFree.{Searched, room-skip, room-here, deleted-next, deleted-end}
+use Rattle.promises.specs.Making.SlotSplices.{deleted-unless}
 use Rattle.index.specs.Whole.{Slotted}
 use Rattle.index.specs.Extents.{startIn, endIn, Known}
 use Rattle.index.proofs.SlotLaws.{slot-passed}

@@ -22,7 +22,7 @@ ghost use Rattle.standard.specs.Files.{extentSize};
 ghost use Rattle.standard.specs.Judgement.{judged};
 ghost use Rattle.standard.specs.Free.{freeRecords, freeCount};
 ghost use Rattle.standard.specs.Creating.{lowestDeleted, lowestRun};
-ghost use Rattle.promises.specs.FreeLaws.{extentsBelow};
+ghost use Rattle.promises.specs.Volumes.FreeLaws.{extentsBelow};
 ghost use Rattle.index.specs.Whole.{Slotted};
 ghost use Rattle.index.specs.Extents.{Known};
 ghost use Rattle.vacancy.specs.Passes.{pastOne, pastAll};

@@ -20,7 +20,7 @@ use Rattle.standard.specs.declared.Checked.{Checked}
 use Rattle.standard.specs.declared.Checked.the-variants.{Passed, Stopped}
 use Rattle.standard.specs.declared.Judged.{Judged}
 use Rattle.standard.specs.declared.Judged.the-variants.{Refused}
-use Rattle.promises.specs.VolumeNumbers.{of-rules}
+use Rattle.promises.specs.Volumes.VolumeNumbers.{of-rules}
 use Rattle.numbers.specs.Numbers.{bare, defected, numbers-both}
 use Rattle.index.specs.Whole.{Whole}
 use Rattle.volume.specs.Stages.{judgedFrom}

@@ -13,9 +13,9 @@ use Rattle.standard.specs.Addresses.{addressCount}
 use Rattle.standard.specs.Judgement.{numbersIn, judged, legalKind, kindsFrom, refusal6}
 use Rattle.standard.specs.declared.Geometry.{Geometry}
 use Rattle.standard.specs.declared.Judged.the-variants.{Volume}
-use Rattle.promises.specs.Judging.{accepted}
-use Rattle.promises.specs.VolumeNumbers.{Numbers, numbers-of, slot-in-index}
-use Rattle.promises.specs.AcceptedLaws.{image-length}
+use Rattle.promises.specs.Volumes.Judging.{accepted}
+use Rattle.promises.specs.Volumes.VolumeNumbers.{Numbers, numbers-of, slot-in-index}
+use Rattle.promises.specs.Volumes.AcceptedLaws.{image-length}
 use Rattle.numbers.specs.Numbers.{bare}
 use Rattle.index.specs.Whole.{Whole, Slotted}
 

@@ -14,7 +14,7 @@ use Rattle.standard.specs.Pieces.{whole, first, middle, last}
 use Rattle.standard.specs.Records.{within, deliver, carry, breach, overIn, over, meet, refuse20}
 use Rattle.standard.specs.Places.{nextBlock, afterGap}
 use Rattle.standard.specs.declared.Place.{Place}
-use Rattle.promises.specs.Basics.{cond-elim, by-test, or-l, or-r, or-rest}
+use Rattle.promises.specs.Ground.Basics.{cond-elim, by-test, or-l, or-r, or-rest}
 use Rattle.labels.specs.Forms.{formatFor}
 use Rattle.labels.specs.declared.Form.{Form}
 use Rattle.pieces.specs.Looks.{roleFor, headOf}

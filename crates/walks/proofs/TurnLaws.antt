@@ -9,7 +9,7 @@ use lib.ListN.{length, drop}
 use Rattle.standard.specs.Labels.{Params}
 use Rattle.standard.specs.Pieces.{Block, lostBlock, held, Role, Piece, blank, broken, piece, isFill, look}
 use Rattle.standard.specs.Records.{Mode, State, took, refused, refuse21, Move as MoveOf, atEnd, atLost, afterMove}
-use Rattle.promises.specs.StepLaw.{reading, behind, onPiece, onBlocks, reading-law}
+use Rattle.promises.specs.Reading.StepLaw.{reading, behind, onPiece, onBlocks, reading-law}
 use Rattle.pieces.specs.Looks.{roleFor}
 use Rattle.walks.specs.Stands.{lengthOf, stateWith, limitOf, meetBy, moveWith}
 use Rattle.walks.specs.declared.Stand.{Stand}

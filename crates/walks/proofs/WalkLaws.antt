@@ -16,7 +16,7 @@ use Rattle.standard.specs.Files.{goodRecords, recordsToBlock, contentSize, anyF
 use Rattle.standard.specs.declared.Geometry.{Geometry}
 use Rattle.standard.specs.declared.Place.{Place}
 use Rattle.standard.specs.declared.Address.{Address}
-use Rattle.promises.specs.Basics.{cond-elim}
+use Rattle.promises.specs.Ground.Basics.{cond-elim}
 use Rattle.labels.specs.Forms.{formatFor}
 use Rattle.extents.specs.Cursors.{standing}
 use Rattle.extents.specs.declared.Cursor.{Cursor}

@@ -21,11 +21,11 @@ use Rattle.standard.specs.declared.Refusal.{Refusal}
 use Rattle.standard.specs.declared.Checked.{Checked}
 use Rattle.standard.specs.declared.Checked.the-variants.{Passed, Stopped}
 use Rattle.standard.specs.declared.Judged.the-variants.{Volume}
-use Rattle.promises.specs.Judging.{order-append, else-both, not-given}
-use Rattle.promises.specs.LabelRules.{Rules, label-rules}
-use Rattle.promises.specs.VolumeNumbers.{numbers-of}
-use Rattle.promises.specs.FullBlocks.{block-low}
-use Rattle.promises.specs.NeededLaws.{levelFrom, EachFits, each-fits, unused-counted, needed-level-is}
+use Rattle.promises.specs.Volumes.Judging.{order-append, else-both, not-given}
+use Rattle.promises.specs.Volumes.LabelRules.{Rules, label-rules}
+use Rattle.promises.specs.Volumes.VolumeNumbers.{numbers-of}
+use Rattle.promises.specs.Extents.FullBlocks.{block-low}
+use Rattle.promises.specs.Writing.NeededLaws.{levelFrom, EachFits, each-fits, unused-counted, needed-level-is}
 use Rattle.labels.specs.Forms.{formIn, formatFor, format-back}
 use Rattle.labels.specs.declared.Form.{Form}
 use Rattle.extents.specs.Cursors.{goodFrom}

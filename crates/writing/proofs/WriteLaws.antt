@@ -23,19 +23,19 @@ use Rattle.standard.specs.declared.Judged.the-variants.{Refused, Volume}
 use Rattle.standard.specs.declared.Checked.{Checked}
 use Rattle.standard.specs.declared.Written.{Written}
 use Rattle.standard.specs.declared.Written.the-variants.{Unwritten, Blocks}
-use Rattle.promises.specs.Basics.{never}
-use Rattle.promises.specs.LabelRules.{Rules, Shape, shape, isF, isV, isS, block-fits, fixed-low, fixed-high, fixed-whole}
-use Rattle.promises.specs.Judging.{stop-first, stop-rest}
-use Rattle.promises.specs.Lists.{Every}
-use Rattle.promises.specs.AcceptedLaws.{image-length}
-use Rattle.promises.specs.AcceptedWrite.{passing, outcome-is, label-range, stored, stored-whole}
-use Rattle.promises.specs.VolumeNumbers.{numbers-of}
-use Rattle.promises.specs.FullBlocks.{records-few}
-use Rattle.promises.specs.PackedRecords.{Sized as SizedBlocks}
-use Rattle.promises.specs.StoredBlocks.{sizes-fitting}
-use Rattle.promises.specs.WrittenLabel.{old-rules, packing-right, records-some}
-use Rattle.promises.specs.NeededLaws.{EachFits, each-fits}
-use Rattle.promises.specs.ExtentAddresses.{good-legal}
+use Rattle.promises.specs.Ground.Basics.{never}
+use Rattle.promises.specs.Volumes.LabelRules.{Rules, Shape, shape, isF, isV, isS, block-fits, fixed-low, fixed-high, fixed-whole}
+use Rattle.promises.specs.Volumes.Judging.{stop-first, stop-rest}
+use Rattle.promises.specs.Ground.Lists.{Every}
+use Rattle.promises.specs.Volumes.AcceptedLaws.{image-length}
+use Rattle.promises.specs.Writing.AcceptedWrite.{passing, outcome-is, label-range, stored, stored-whole}
+use Rattle.promises.specs.Volumes.VolumeNumbers.{numbers-of}
+use Rattle.promises.specs.Extents.FullBlocks.{records-few}
+use Rattle.promises.specs.Writing.PackedRecords.{Sized as SizedBlocks}
+use Rattle.promises.specs.Writing.StoredBlocks.{sizes-fitting}
+use Rattle.promises.specs.Writing.WrittenLabel.{old-rules, packing-right, records-some}
+use Rattle.promises.specs.Writing.NeededLaws.{EachFits, each-fits}
+use Rattle.promises.specs.Extents.ExtentAddresses.{good-legal}
 use Rattle.labels.specs.declared.Form.the-variants.{Fixed}
 use Rattle.labels.specs.Forms.{formIn, formatFor, format-back}
 use Rattle.layout.specs.Room.{Room, Sized}

@@ -15,7 +15,7 @@ use Rattle.standard.specs.declared.Geometry.{Geometry}
 use Rattle.standard.specs.declared.Checked.{Checked}
 use Rattle.standard.specs.declared.Checked.the-variants.{Passed, Stopped}
 use Rattle.standard.specs.declared.Judged.the-variants.{Volume}
-use Rattle.promises.specs.NeededLaws.{Level, levelFrom}
+use Rattle.promises.specs.Writing.NeededLaws.{Level, levelFrom}
 use Rattle.labels.specs.Forms.{formIn}
 use Rattle.extents.specs.declared.Condition.{Condition}
 use Rattle.extents.specs.declared.Condition.the-variants.{Wrong, Whole, Holed}

@@ -40,7 +40,7 @@ ghost use Rattle.standard.specs.Slots.{hasLabel};
 ghost use Rattle.standard.specs.Files.{addressesFrom};
 ghost use Rattle.standard.specs.Judgement.{judged};
 ghost use Rattle.standard.specs.Writing.{total, packing, imageWith, written, imageAfter};
-ghost use Rattle.promises.specs.NeededLaws.{EachFits};
+ghost use Rattle.promises.specs.Writing.NeededLaws.{EachFits};
 ghost use Rattle.labels.specs.Forms.{formatFor};
 ghost use Rattle.extents.specs.Cursors.{legalAt, goodFrom};
 ghost use Rattle.files.specs.Numbers.{numbersOf};

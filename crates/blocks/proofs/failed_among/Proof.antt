@@ -13,7 +13,7 @@ use Rattle.standard.specs.Layout.{kindOffset}
 use Rattle.standard.specs.Addresses.{ordinal}
 use Rattle.standard.specs.Files.{isDefective, anyFailed}
 use Rattle.standard.specs.declared.Address.{Address}
-use Rattle.promises.specs.Basics.{and-l, and-r}
+use Rattle.promises.specs.Ground.Basics.{and-l, and-r}
 use Rattle.extents.specs.Cursors.{legalOn, goodFrom}
 use Rattle.extents.proofs.CursorLaws.{legal-head, legal-next}
 use Rattle.blocks.proofs.LostLaws.{failed-stop, failed-more, failed-over}

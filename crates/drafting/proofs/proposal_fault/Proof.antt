@@ -4,7 +4,7 @@ use mathlib.Core.Path.{sym}
 use denote.Ref.{now}
 use lib.ListN.{length}
 use borrow.Author.Tests.{ne-eqb}
-use Rattle.promises.specs.AddedRows.{wrong-length}
+use Rattle.promises.specs.Making.AddedRows.{wrong-length}
 use Rattle.drafting.proofs.DraftLaws.{fault-is}
 use borrow.Author.Needs.{needs}
 use Rattle.drafting.proofs.proposal_fault.Statement.{statement}

@@ -3,8 +3,8 @@
 use mathlib.Core.Path.{sym, ap, _∙_}
 use denote.Ref.{now}
 use Rattle.standard.specs.Layout.{labelAt}
-use Rattle.promises.specs.AcceptedLaws.{label-in-range}
-use Rattle.promises.specs.VolumeNumbers.{numbers-of}
+use Rattle.promises.specs.Volumes.AcceptedLaws.{label-in-range}
+use Rattle.promises.specs.Volumes.VolumeNumbers.{numbers-of}
 use Rattle.volume.proofs.NumberLaws.{slotted-of}
 use Rattle.finding.proofs.AskLaws.{known-facts, known-room}
 use Rattle.files.specs.declared.Numbers.{Numbers}

@@ -8,7 +8,7 @@ use lib.ListN.{length, getD, drop}
 use native.Mathlib.Omega.{arith}
 use denote.Ref.{now}
 use Rattle.standard.specs.Writing.{total}
-use Rattle.promises.specs.Lists.{Every}
+use Rattle.promises.specs.Ground.Lists.{Every}
 use Rattle.laying.specs.Ahead.{fitsAs, Ready}
 use Rattle.laying.proofs.DeskLaws.{Behind, record-on, record-fits, records-end}
 use Rattle.laying.proofs.lay_records.Statement.{statement}

@@ -2,7 +2,7 @@
 -- Assumes nothing.
 use Prim.Native.Nat.{ℕ, _≤_}
 use mathlib.Core.Path.{subst}
-use Rattle.promises.specs.NeededLaws.{leastFor}
+use Rattle.promises.specs.Writing.NeededLaws.{leastFor}
 use Rattle.laying.proofs.DeskLaws.{room-ready, spanned-laid}
 use denote.Ref.{now}
 use borrow.Author.Needs.{needs}

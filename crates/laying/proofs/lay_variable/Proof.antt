@@ -7,7 +7,7 @@ use lib.ListN.{take, drop}
 use native.Mathlib.Omega.{arith}
 use mathlib.Core.Path.{ap, _∙_}
 use Rattle.standard.specs.Packing.{recordV}
-use Rattle.promises.specs.WritingLaws.{recordV-length}
+use Rattle.promises.specs.Writing.WritingLaws.{recordV-length}
 use borrow.Author.Needs.{needs}
 use Rattle.laying.proofs.lay_variable.Statement.{statement}
 use Rattle.laying.proofs.lay_variable.Tie as tie

@@ -8,7 +8,7 @@ use lib.ListN.{length}
 use native.Mathlib.Omega.{arith}
 use denote.Ref.{now}
 use Rattle.standard.specs.Packing.{Laid}
-use Rattle.promises.specs.NeededLaws.{leastFor, least-most, six-left}
+use Rattle.promises.specs.Writing.NeededLaws.{leastFor, least-most, six-left}
 use Rattle.filling.specs.Poured.{Placed}
 use Rattle.laying.proofs.DeskLaws.{Left, segment-on, segment-end}
 use Rattle.laying.proofs.spread.Statement.{statement}

@@ -4,7 +4,7 @@ use mathlib.Core.Path.{sym, _∙_}
 use native.Mathlib.Omega.{arith}
 use borrow.Author.Tests.{not-true, not-false}
 use denote.Ref.{now}
-use Rattle.promises.specs.FreeLaws.{has-label}
+use Rattle.promises.specs.Volumes.FreeLaws.{has-label}
 use Rattle.volume.proofs.NumberLaws.{slotted-of}
 use Rattle.text.proofs.LaidLaws.{puts-as, puts-none}
 use Rattle.lines.proofs.Laws.{no-line, a-line}

@@ -5,7 +5,7 @@ use mathlib.Core.Path.{sym, ap, _∙_}
 use mathlib.Core.List.{List}
 use denote.Ref.{now}
 use Rattle.standard.specs.Labels.{formatOf, isBlocked}
-use Rattle.promises.specs.VolumeNumbers.{numbers-of}
+use Rattle.promises.specs.Volumes.VolumeNumbers.{numbers-of}
 use Rattle.labels.specs.Forms.{formIn}
 use Rattle.files.specs.Numbers.{numbersOf}
 use Rattle.files.proofs.Accepted.{ready}

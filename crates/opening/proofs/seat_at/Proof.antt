@@ -10,7 +10,7 @@ use native.Mathlib.Nat.{mul-le-mul-right}
 use borrow.Author.Tests.{ltb-false}
 use denote.Ref.{now}
 use Rattle.standard.specs.Files.{goodRecords}
-use Rattle.promises.specs.Basics.{or-r}
+use Rattle.promises.specs.Ground.Basics.{or-r}
 use Rattle.opening.specs.Opened.{labelIn}
 use Rattle.opening.proofs.OpenedLaws.{facts}
 use borrow.Author.Needs.{needs}

@@ -5,7 +5,7 @@ use lib.Dec.{leb}
 use native.Mathlib.Omega.{arith}
 use borrow.Author.Tests.{leb-true, not-true, not-false}
 use denote.Ref.{now}
-use Rattle.promises.specs.Basics.{and-l}
+use Rattle.promises.specs.Ground.Basics.{and-l}
 use Rattle.blocks.specs.Streams.{stream}
 use Rattle.pieces.specs.Looks.{partS}
 use Rattle.pieces.proofs.WordLaws.{s-short, s-zero, s-word, s-not, s-is}

@@ -2,7 +2,7 @@
 -- Assumes nothing.
 use mathlib.Core.Path.{sym}
 use native.Mathlib.Omega.{arith}
-use Rattle.promises.specs.NeededLaws.{least-pos}
+use Rattle.promises.specs.Writing.NeededLaws.{least-pos}
 use Rattle.sizing.proofs.LevelLaws.{least-none}
 use Rattle.sizing.proofs.least_for.Statement.{statement}
 use Rattle.sizing.proofs.least_for.Tie as tie

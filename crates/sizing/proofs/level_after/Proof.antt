@@ -6,8 +6,8 @@ use lib.ListN.{length, drop}
 use native.Mathlib.Omega.{arith}
 use denote.Ref.{now}
 use Rattle.standard.specs.Writing.{total}
-use Rattle.promises.specs.StoreLaws.{total-drop}
-use Rattle.promises.specs.NeededLaws.{levelFrom, FitsIn}
+use Rattle.promises.specs.Writing.StoreLaws.{total-drop}
+use Rattle.promises.specs.Writing.NeededLaws.{levelFrom, FitsIn}
 use Rattle.labels.specs.Forms.{formatFor}
 use Rattle.sizing.proofs.LevelLaws.{level-to, level-none, fits-at, stands-as}
 use borrow.Author.Needs.{needs}

@@ -4,7 +4,7 @@ use Prim.Native.Nat.{ℕ, suc}
 use mathlib.Core.Path.{sym, ap, _∙_}
 use native.Mathlib.Omega.{arith}
 use native.Mathlib.Numerals.{add-one}
-use Rattle.promises.specs.NeededLaws.{spreadTo}
+use Rattle.promises.specs.Writing.NeededLaws.{spreadTo}
 use Rattle.sizing.proofs.LevelLaws.{spanned-here, spanned-after, stands-as}
 use borrow.Author.Needs.{needs}
 use Rattle.sizing.proofs.place_spanned.Statement.{statement}

@@ -4,7 +4,7 @@ use Prim.Native.Nat.{ℕ, suc, _+_, _-_, _<_, _≤_}
 use mathlib.Core.Path.{_≡_, refl, sym, ap, _∙_}
 use native.Mathlib.Omega.{arith}
 use native.Mathlib.Numerals.{add-one}
-use Rattle.promises.specs.NeededLaws.{spreadTo, leastFor, spread-ends, spread-goes-on}
+use Rattle.promises.specs.Writing.NeededLaws.{spreadTo, leastFor, spread-ends, spread-goes-on}
 use Rattle.sizing.proofs.LevelLaws.{takes-one, stands-as}
 use borrow.Author.Needs.{needs}
 use Rattle.sizing.proofs.spread.Statement.{statement}

@@ -6,7 +6,7 @@ use lib.ListN.{length, drop}
 use native.Mathlib.Omega.{arith}
 use denote.Ref.{now}
 use Rattle.standard.specs.Writing.{total}
-use Rattle.promises.specs.StoreLaws.{total-drop}
+use Rattle.promises.specs.Writing.StoreLaws.{total-drop}
 use Rattle.sizing.proofs.LevelLaws.{sum-over, sum-end}
 use borrow.Author.Needs.{needs}
 use Rattle.sizing.proofs.sums_to.Statement.{statement}

@@ -5,7 +5,7 @@ use Prim.Native.Nat.{ℕ, _-_, _≤_}
 use denote.Ref.{now}
 use native.Mathlib.Omega.{arith}
 use Rattle.standard.specs.Layout.{slotCount}
-use Rattle.promises.specs.RunsFree.{Searched, room-start, room-full}
+use Rattle.promises.specs.Making.RunsFree.{Searched, room-start, room-full}
 use Rattle.volume.proofs.NumberLaws.{slotted-of}
 use Rattle.vacancy.specs.Passes.{pastAll}
 use Rattle.vacancy.proofs.PassLaws.{pass-onward, pass-searched, pass-found}

@@ -8,7 +8,7 @@ use Prim.Native.Nat.{_*_, _-_, _≤_}
 use mathlib.Core.Path.{_≡_}
 use denote.Ref.{now}
 use Rattle.standard.specs.Layout.{slotCount}
-use Rattle.promises.specs.FreeLaws.{extentsBelow}
+use Rattle.promises.specs.Volumes.FreeLaws.{extentsBelow}
 use Rattle.vacancy.proofs.FreeLaws.{extents-none, extents-more}
 use Rattle.vacancy.proofs.used.Statement.{statement}
 use Rattle.vacancy.proofs.used.Tie as tie

@@ -7,8 +7,8 @@ use lib.ListN.{length}
 use native.Mathlib.Omega.{arith}
 use denote.Ref.{now}
 use Rattle.standard.specs.Labels.{formatOf, blockLength}
-use Rattle.promises.specs.VolumeNumbers.{numbers-of}
-use Rattle.promises.specs.NeededLaws.{EachFits}
+use Rattle.promises.specs.Volumes.VolumeNumbers.{numbers-of}
+use Rattle.promises.specs.Writing.NeededLaws.{EachFits}
 use Rattle.labels.specs.Forms.{formIn}
 use Rattle.files.specs.Numbers.{numbersOf}
 use Rattle.files.proofs.Accepted.{ready}

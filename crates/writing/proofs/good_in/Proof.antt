@@ -2,7 +2,7 @@
 -- Assumes nothing.
 use mathlib.Core.Path.{sym, ap, _∙_}
 use lib.ListN.{length}
-use Rattle.promises.specs.ExtentWhole.{from-length}
+use Rattle.promises.specs.Extents.ExtentWhole.{from-length}
 use borrow.Author.Needs.{needs}
 use Rattle.writing.proofs.good_in.Statement.{statement}
 use Rattle.writing.proofs.good_in.Tie as tie

@@ -1,0 +1,6 @@
+-- How large the numbers in an answer can be; and the one returned number of the C boundary, which is exact.
+pub mod Sizes
+pub mod ReadingSizes
+pub mod WritingSizes
+pub mod MadeSizes
+pub mod PackedLaws
