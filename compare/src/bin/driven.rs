@@ -64,17 +64,30 @@ fn main() -> ExitCode {
     }
 }
 
+type Stage = fn(&mut Session, &Options) -> io::Result<()>;
+
+const STAGES: [(&str, Stage); 4] = [
+    ("volumes", volumes),
+    ("files", files),
+    ("writes", writes),
+    ("creates and deletes", placings),
+];
+
 fn run(options: &Options) -> io::Result<(usize, usize)> {
     let mut session = Session::start(&options.command, options.number("seed"))?;
-    // A driver that answers no more was told of and counted.
-    let all = volumes(&mut session, options)
-        .and_then(|()| files(&mut session, options))
-        .and_then(|()| writes(&mut session, options))
-        .and_then(|()| placings(&mut session, options));
-    match all {
-        Ok(()) => session.end(),
-        Err(_) => Ok(session.tally()),
+    for (number, (name, stage)) in (1..).zip(STAGES) {
+        // A driver that answers no more was told of and counted.
+        if stage(&mut session, options).is_err() {
+            return Ok(session.tally());
+        }
+        let (passed, failed) = session.tally();
+        let calls = passed + failed;
+        eprintln!(
+            "[{number} of {}] {name}: {calls} calls by now",
+            STAGES.len()
+        );
     }
+    session.end()
 }
 
 /// Images and calls that are drawn or counted beforehand.

@@ -17,14 +17,16 @@ use std::path::{Path, PathBuf};
 use std::process::ExitCode;
 
 const HELP: &str = "\
-equations DEFINITIONS OUT [--seed N] [--count N] [--largest BYTES] [--crates N]
+equations DEFINITIONS OUT [--seed N] [--count N] [--largest BYTES] [--each N]
 equations DEFINITIONS OUT --image FILE
 
 Writes the crates equations_1, equations_2 .. below the folder OUT, equations
-about each case: DEFINITIONS is the folder specs/ of the crate standard. First
+about each of so many cases to a crate: DEFINITIONS is the folder specs/ of the crate standard. First
 come cases that reach every refusal, position, answer and shape between them,
-those of creating and deleting for themselves, then salvages that give gaps and go on behind them; half of the rest are drawn from the seed, with images of at most so many bytes,
-half are taken evenly from those counted out.
+those of creating and deleting for themselves, then salvages that give gaps and go on behind them; of the rest every
+other one is drawn from the seed, with images of at most so many bytes, or taken evenly from those counted out.
+Prints a line for each crate: its name, the number of its equations, and 'needed' if one of them is of the first sort
+or a salvage, else 'more'.
 With --image the cases are the judgement, the free records and the listing of
 that image, and the listing is printed.
 ";
@@ -33,7 +35,7 @@ struct Options {
     seed: u64,
     count: usize,
     largest: usize,
-    crates: usize,
+    each: usize,
     image: Option<String>,
 }
 
@@ -48,8 +50,8 @@ fn main() -> ExitCode {
         return ExitCode::from(2);
     };
     match write_crates(Path::new(definitions), Path::new(out), &options) {
-        Ok(equations) => {
-            println!("{equations} equations");
+        Ok(lines) => {
+            print!("{lines}");
             ExitCode::SUCCESS
         }
         Err(error) => {
@@ -64,7 +66,7 @@ fn options(words: &[String]) -> Option<Options> {
         seed: 28_081,
         count: 300,
         largest: 2_500,
-        crates: 2,
+        each: 50,
         image: None,
     };
     for pair in words.chunks(2) {
@@ -73,7 +75,7 @@ fn options(words: &[String]) -> Option<Options> {
             "--seed" => options.seed = value.parse().ok()?,
             "--count" => options.count = value.parse().ok()?,
             "--largest" => options.largest = value.parse().ok()?,
-            "--crates" => options.crates = value.parse().ok().filter(|n| *n > 0)?,
+            "--each" => options.each = value.parse().ok().filter(|n| *n > 0)?,
             "--image" => options.image = Some(value.clone()),
             _ => return None,
         }
@@ -81,14 +83,29 @@ fn options(words: &[String]) -> Option<Options> {
     Some(options)
 }
 
-fn write_crates(definitions: &Path, out: &Path, options: &Options) -> io::Result<usize> {
+fn write_crates(definitions: &Path, out: &Path, options: &Options) -> io::Result<String> {
     let preamble = Preamble::read(definitions)?;
-    let mut texts = vec![preamble.imports.clone(); options.crates];
+    let (cases, needed) = chosen(options)?;
+    let mut lines = String::new();
+    for (number, part) in cases.chunks(options.each).enumerate() {
+        let first = number * options.each;
+        let (text, equations) = crate_text(&preamble, first, part);
+        let name = format!("equations_{}", number + 1);
+        write_crate(&out.join(&name), &text)?;
+        let sort = if first < needed { "needed" } else { "more" };
+        let _ = writeln!(lines, "{name} {equations} {sort}");
+    }
+    Ok(lines)
+}
+
+/// The module of a crate, its cases numbered from the first on, and how many
+/// equations it has.
+fn crate_text(preamble: &Preamble, first: usize, part: &[Case]) -> (String, usize) {
+    let mut text = preamble.imports.clone();
     let mut equations = 0;
-    for (number, case) in chosen(options)?.iter().enumerate() {
+    for (number, case) in (first..).zip(part) {
         let facts = facts(number, &case.image, &case.call);
         equations += facts.len();
-        let text = &mut texts[number % options.crates];
         let _ = write!(
             text,
             "\n-- {} {number}\nabbrev image-{number} : List ℕ\nimage-{number} =\n    {}\n\ncase-{number} :\n    ({})\nunfolding{}\ncase-{number} = {}\n",
@@ -99,21 +116,22 @@ fn write_crates(definitions: &Path, out: &Path, options: &Options) -> io::Result
             proofs(facts.len())
         );
     }
-    for (number, text) in texts.iter().enumerate() {
-        let folder = out.join(format!("equations_{}", number + 1));
-        fs::create_dir_all(folder.join("src"))?;
-        fs::create_dir_all(folder.join("specs"))?;
-        fs::write(
-            folder.join("src/lib.rt"),
-            "// Equations only: see specs/Cases.antt.\n",
-        )?;
-        fs::write(folder.join("specs/Lib.antt"), "pub mod Cases\n")?;
-        fs::write(folder.join("specs/Cases.antt"), text)?;
-    }
-    Ok(equations)
+    (text, equations)
 }
 
-fn chosen(options: &Options) -> io::Result<Vec<Case>> {
+fn write_crate(folder: &Path, text: &str) -> io::Result<()> {
+    fs::create_dir_all(folder.join("src"))?;
+    fs::create_dir_all(folder.join("specs"))?;
+    fs::write(
+        folder.join("src/lib.rt"),
+        "// Equations only: see specs/Cases.antt.\n",
+    )?;
+    fs::write(folder.join("specs/Lib.antt"), "pub mod Cases\n")?;
+    fs::write(folder.join("specs/Cases.antt"), text)
+}
+
+/// The cases, and how many of them are needed: those that come first.
+fn chosen(options: &Options) -> io::Result<(Vec<Case>, usize)> {
     let Some(file) = &options.image else {
         let small = cases(options.seed, LOOKED_AT, options.largest);
         let roomy = cases(options.seed, LOOKED_AT, options.largest.max(ROOMY));
@@ -123,10 +141,15 @@ fn chosen(options: &Options) -> io::Result<Vec<Case>> {
         all.extend(salvaged(options, |mark, code| mark == 0 && code == GAP));
         all.extend(salvaged(options, |mark, code| mark != 0 && code == GAP));
         all.extend(salvaged(options, |mark, code| mark != 0 && code == 0));
-        let rest = options.count.saturating_sub(all.len());
-        all.extend(cases(options.seed, rest.div_ceil(2), options.largest));
-        all.extend(evenly(rest / 2));
-        return Ok(all);
+        let needed = all.len();
+        let rest = options.count.saturating_sub(needed);
+        let drawn = cases(options.seed, rest.div_ceil(2), options.largest);
+        let mut counted = evenly(rest / 2).into_iter();
+        for case in drawn {
+            all.push(case);
+            all.extend(counted.next());
+        }
+        return Ok((all, needed));
     };
     let image = fs::read(file)?;
     eprint!("{}", String::from_utf8_lossy(&listing(&image)));
@@ -136,7 +159,9 @@ fn chosen(options: &Options) -> io::Result<Vec<Case>> {
         image: image.clone(),
         call,
     };
-    Ok(calls.into_iter().map(case).collect())
+    let all: Vec<Case> = calls.into_iter().map(case).collect();
+    let needed = all.len();
+    Ok((all, needed))
 }
 
 /// How many drawn cases are looked through for one that reaches something new.

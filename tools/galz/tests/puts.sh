@@ -168,28 +168,48 @@ test_closed() {
   holds 'the image has its length' [ "$(stat -c %s demo.img)" -eq 9546 ]
 }
 
-# A signal ends a run and leaves nothing: it is sent once the new file is there beside its place.
+# SIGNAL WORDS..: a run of galz, started by these words, that does not come to its end by itself; it has begun once the new file is there beside its place
+begins() {
+  local signal=$1 turn
+  shift
+  # job control is for where env cannot set signals
+  set -m
+  "$@" "${front[@]}" "$folder/galz" read --slot 1 -o out F-4900.img 2>/dev/null &
+  run=$!
+  set +m
+  for turn in $(seq 1 200); do
+    ls -A | grep -q '^\.galz-' && break
+    sleep 0.05
+  done
+  holds "$signal: the new file stood beside its place" [ "$turn" -lt 200 ]
+}
+
+# SIGNAL: this one ends the run, and nothing is left
+ended_by() {
+  kill -s "$1" "$run"
+  wait "$run" 2>/dev/null
+  holds "$1 ends the run" [ $? -eq $((128 + $(kill -l "$1"))) ]
+  last="a signal $1"
+  stands F-4900.img
+}
+
+# A signal ends a run and leaves nothing; one that its parent ignores does not end it.
 test_signals() {
   fresh
   sample F-4900
-  # records of one byte, more than a million: none of the runs comes to its end
+  # records of one byte, more than a million
   poke F-4900.img "$(label 1 54)" 0001
+  local signal
   for signal in TERM INT HUP; do
-    # job control is for where env cannot set signals
-    set -m
-    "${default[@]}" "${front[@]}" "$folder/galz" read --slot 1 -o out F-4900.img 2>/dev/null &
-    local run=$! turn
-    set +m
-    for turn in $(seq 1 200); do
-      ls -A | grep -q '^\.galz-' && break
-      sleep 0.05
-    done
-    holds "$signal: the new file stood beside its place" [ "$turn" -lt 200 ]
+    begins "$signal" "${default[@]}"
+    ended_by "$signal"
+  done
+  [ ${#default[@]} -gt 0 ] || return 0
+  for signal in INT HUP; do
+    begins "$signal" env --default-signal --ignore-signal="$signal"
     kill -s "$signal" "$run"
-    wait "$run" 2>/dev/null
-    holds "$signal ends the run" [ $? -gt 128 ]
-    last="a signal $signal"
-    stands F-4900.img
+    sleep 0.2
+    ended_by TERM
   done
 }
 
