@@ -174,6 +174,7 @@ pub fn spaces_or_number(low: u64, high: u64, f: &[u8]) -> bool
 }
 
 // Numbers of fields that were judged before, or are judged elsewhere. A field of any bytes spells one; the bounds hold of any bytes.
+
 // A number, and one digit behind it.
 fn one_more(n: u64, c: u64) -> u64
     requires { ⌜ (n < 300000) × (c < 256) ⌝ }
