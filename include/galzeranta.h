@@ -186,8 +186,8 @@ static inline galz_u64 galz_bits(galz_u64 answer, unsigned int from, unsigned in
 }
 
 /*
- * Any answer. The code, bits 56-63; whether the call was done, in reading with a record; whether it was refused. Of galz_done, galz_refused, galz_is_gap and
- * galz_is_end exactly one holds.
+ * Any answer. The code, bits 56-63; whether the call was done, in reading with a record; whether it was refused. Of an answer of galz_read or galz_salvage exactly
+ * one of galz_done, galz_refused, galz_is_gap and galz_is_end holds.
  */
 static inline unsigned int galz_code(galz_u64 answer) { return (unsigned int)galz_bits(answer, 56, 8); }
 static inline int galz_done(galz_u64 answer) { return galz_code(answer) == 0; }

@@ -259,10 +259,11 @@ impl Preamble {
              use Prim.Native.Nat.{ℕ}\n\
              use mathlib.Core.Path.{_≡_, refl}\n\
              use mathlib.Core.Bool.{true, false}\n\
-             use mathlib.Core.List.{List, [], _∷_, _++_}\n\
+             use mathlib.Core.List.{List, [], _∷_, _++_, flatten}\n\
              use lib.ListN.{replicate}\n",
         );
-        let mut unfolding = String::new();
+        // The library's definition that the packing of F computes with; all others here open by themselves.
+        let mut unfolding = String::from(" flatten");
         for file in modules(definitions)? {
             let text = fs::read_to_string(&file)?;
             let opened: Vec<&str> = names(&text, "unfoldable pub ").collect();

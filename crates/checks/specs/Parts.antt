@@ -5,7 +5,7 @@ use mathlib.Core.Bool.{Bool, cond, not, _&&_, _||_}
 use mathlib.Core.List.{List}
 use lib.Dec.{leb, ltb, eqb}
 use Rattle.standard.specs.Characters.{bytes, byte, between, oneOf, isSpace, spaces, digits, number}
-use Rattle.standard.specs.Labels.{if-so, reading}
+use Rattle.standard.specs.Labels.{if-so, unless-at-fault}
 use Rattle.standard.specs.declared.Geometry.{Geometry}
 use Rattle.fields.specs.Numbers.{perhaps}
 use Rattle.fields.specs.declared.Perhaps.{Perhaps}
@@ -24,9 +24,9 @@ formatRight c f = oneOf (bytes " FVS") f && if-so (eqb c (byte " ") || eqb c (by
 -- "at least 1, 4, 5 for F, V, S"
 unfoldable pub blockLeast : ℕ → Bool → ℕ → Bool
 blockLeast f right40 B =
-    reading right40 (if-so (oneOf (bytes " F") f) (leb 1 B))
-    && reading right40 (if-so (oneOf (bytes "V") f) (leb 4 B))
-    && reading right40 (if-so (oneOf (bytes "S") f) (leb 5 B))
+    unless-at-fault right40 (if-so (oneOf (bytes " F") f) (leb 1 B))
+    && unless-at-fault right40 (if-so (oneOf (bytes "V") f) (leb 4 B))
+    && unless-at-fault right40 (if-so (oneOf (bytes "S") f) (leb 5 B))
 
 -- "at most D·P; above P a multiple of P; level space at most P; V and S at most 9,999 (house)."
 unfoldable pub blockFits : Geometry → ℕ → ℕ → Bool → ℕ → Bool
@@ -35,7 +35,7 @@ blockFits g c f right40 B =
     && leb B (g .D * g .P)
     && if-so (ltb (g .P) B) (eqb (B % g .P) 0)
     && if-so (eqb c (byte " ")) (leb B (g .P))
-    && reading right40 (if-so (oneOf (bytes "V") f || oneOf (bytes "S") f) (leb B 9999))
+    && unless-at-fault right40 (if-so (oneOf (bytes "V") f || oneOf (bytes "S") f) (leb B 9999))
 
 -- "63 space, or B for blocked; S needs B; level space needs space.", where 40 is right
 unfoldable pub blockedRight : ℕ → ℕ → ℕ → Bool
@@ -49,12 +49,12 @@ blankOr blank f = cond (spaces f) (Number blank) (perhaps (digits f) (number f))
 unfoldable pub recordFits : ℕ → ℕ → Bool → Bool → ℕ → ℕ → Bool
 recordFits c f right63 blocked B R =
     if-so (oneOf (bytes " F") f) (between 1 B R)
-    && reading right63 (if-so (oneOf (bytes " F") f && not blocked) (eqb R B))
-    && reading right63 (if-so (oneOf (bytes " F") f && blocked) (eqb (B % R) 0))
+    && unless-at-fault right63 (if-so (oneOf (bytes " F") f && not blocked) (eqb R B))
+    && unless-at-fault right63 (if-so (oneOf (bytes " F") f && blocked) (eqb (B % R) 0))
     && if-so (eqb c (byte " ")) (eqb R B)
     && if-so (oneOf (bytes "V") f) (between 4 B R)
 
 -- "below B; 0 if unblocked; for F a multiple of R", where 23, 40 and 54 are right
 unfoldable pub unusedFits : ℕ → Bool → Bool → ℕ → ℕ → ℕ → Bool
 unusedFits f right63 blocked B R U =
-    ltb U B && reading right63 (blocked || eqb U 0) && if-so (oneOf (bytes " F") f) (eqb (U % R) 0)
+    ltb U B && unless-at-fault right63 (blocked || eqb U 0) && if-so (oneOf (bytes " F") f) (eqb (U % R) 0)

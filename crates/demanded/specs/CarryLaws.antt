@@ -12,14 +12,15 @@ use native.Mathlib.Nat.{le-refl, not-suc-le-zero, mul-le-mul-right}
 use borrow.Author.Tests.{eq-eqb}
 use Rattle.standard.specs.Layout.{labelAt}
 use Rattle.standard.specs.Addresses.{legal, rank, stepped, firstAddress}
-use Rattle.standard.specs.Labels.{Format, fixed, variable, spanned, paramsOf, blockLength, startOf, endOf, dataEndOf}
+use Rattle.standard.specs.Labels.{paramsOf, blockLength, startOf, endOf, dataEndOf}
 use Rattle.standard.specs.Judgement.{judged}
 use Rattle.standard.specs.Files.{extent, isDefective, goodAmong, goodRecords, recordsToBlock, blocksHeld, dataEndAtStart, blockCount, openRefusal, blocksFrom, fileIn}
 use Rattle.standard.specs.Pieces.{inBlocks}
-use Rattle.standard.specs.Records.{Mode, Item, end, join, listed}
+use Rattle.standard.specs.Records.{Mode}
+use Rattle.standard.specs.Listed.{Item, end, join, listed}
 use Rattle.standard.specs.Places.{start}
 use Rattle.standard.specs.Reading.{replyIn, opened, reply, readAnswer, outputAfter}
-use Rattle.standard.specs.Packing.{layOne, packIn, pack}
+use Rattle.standard.specs.Packing.{pack}
 use Rattle.standard.specs.Writing.{parted, packing, needed, dataEndAfter}
 use Rattle.standard.specs.declared.Geometry.{Geometry}
 use Rattle.standard.specs.declared.Address.{Address}
@@ -36,6 +37,7 @@ use Rattle.promises.specs.Images.AddressLaws.{rank-lt, step-rank, step-legal}
 use Rattle.promises.specs.Volumes.AcceptedLaws.{InRange, bounds-extent}
 use Rattle.promises.specs.Extents.ExtentAddresses.{Rising, Between, rising-every, good-rising}
 use Rattle.promises.specs.Extents.ExtentWhole.{extent-has}
+use Rattle.promises.specs.Writing.Laying.{pack-some, pack-none}
 use Rattle.promises.specs.Writing.DataEnds.{later-at}
 use Rattle.promises.specs.Writing.WriteEnds.{end-of-some, end-of-all, record-there}
 use Rattle.promises.specs.Reading.Following.{Heard, told, onward, following, heardIn}
@@ -182,27 +184,13 @@ module _ (g : Geometry) (image h : List ℕ) (range : InRange g h) (m-some : 1 �
       (λ (l : blocksHeld g image h ≤ n). end-of-all g image h n some l ∙ ap (stepped g) (sym e))
 
 -- A LIST THAT HAS A RECORD NEEDS A BLOCK, and one that has none needs none
-pack-some : (f : Format) (bl : Bool) (B : ℕ) (x : List ℕ) (xs : List (List ℕ)) → 0 < length (packIn f bl B (x ∷ xs) .contents)
-unfolding layOne
-pack-some fixed bl B x xs = omega arith
-pack-some variable true B x xs = omega arith
-pack-some variable false B x xs = omega arith
-pack-some spanned bl B x xs = omega arith
-
-pack-none : (f : Format) (bl : Bool) (B : ℕ) → length (packIn f bl B [] .contents) ≡ 0
-unfolding layOne
-pack-none fixed bl B = refl
-pack-none variable true B = refl
-pack-none variable false B = refl
-pack-none spanned bl B = refl
-
 pub needed-some : (h bodies : List ℕ) (n : ℕ) (lengths : List ℕ) → 0 < needed h bodies (n ∷ lengths)
 unfolding packing pack parted
-needed-some h bodies n lengths = pack-some (paramsOf h .format) (paramsOf h .blocked) (blockLength h) _ (parted (drop n bodies) lengths)
+needed-some h bodies n lengths = pack-some (paramsOf h .format) (paramsOf h .R) (paramsOf h .blocked) (blockLength h) _ (parted (drop n bodies) lengths)
 
 pub needed-none : (h bodies : List ℕ) → needed h bodies [] ≡ 0
 unfolding packing pack parted
-needed-none h bodies = pack-none (paramsOf h .format) (paramsOf h .blocked) (blockLength h)
+needed-none h bodies = ap length (pack-none (paramsOf h .format) (paramsOf h .R) (paramsOf h .blocked) (blockLength h))
 
 -- ---- A FILE WITHOUT A BLOCK: "The number of blocks is 0 if data end = start". No record is heard of it, only End or a refusal.
 module _ (image : List ℕ) (g : Geometry) (slot : ℕ) (accepted : judged image ≡ Volume g)

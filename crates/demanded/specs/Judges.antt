@@ -9,12 +9,11 @@ use mathlib.Core.List.{List, List·Memᴰ}
 use lib.ListN.{length, take, drop}
 use native.Mathlib.Omega.{arith}
 use Rattle.standard.specs.Characters.{bytes, oneOf, same}
-use Rattle.standard.specs.Layout.{indexSectors, labelAt, slotCount, kAt, bodySize, kindOffset, bodyOffset, slotOrdinal, labelOffset, kindAt, bodyAt, validMark}
+use Rattle.standard.specs.Layout.{imageLength, indexSectors, labelAt, slotCount, kAt, bodySize, kindOffset, bodyOffset, slotOrdinal, labelOffset, kindAt, bodyAt, validMark}
 use Rattle.standard.specs.Addresses.{ordinal, addressCount, legal, rank}
 use Rattle.standard.specs.Labels.{knownLevel, nameOf}
 use Rattle.standard.specs.Slots.{hasLabel, isLabel}
-use Rattle.standard.specs.Judgement.{judged}
-use Rattle.standard.specs.Finding.{found}
+use Rattle.standard.specs.Judgement.{judged, volumeOf}
 use Rattle.standard.specs.Free.{freeRecords, inExtent}
 use Rattle.standard.specs.Files.{extent, blockCount, countOr, countRefusal, counted}
 use Rattle.standard.specs.Writing.{imageAfter}
@@ -32,6 +31,8 @@ use Rattle.standard.specs.declared.Counted.the-variants.{Uncounted, Count}
 use Rattle.promises.specs.Ground.Basics.{never}
 use Rattle.promises.specs.Refusals.Refusing.{Exactly}
 use Rattle.promises.specs.Volumes.VolumeNumbers.{Numbers, numbers-of, image-range}
+use Rattle.promises.specs.Volumes.Judging.{accepted as stages-of}
+use Rattle.promises.specs.Volumes.AcceptedLaws.{image-length}
 use Rattle.promises.specs.Volumes.VolumePromises.{RecordInRange}
 use Rattle.promises.specs.Volumes.FindingLaws.{find-slot as found-in-slot, slot-handed-out}
 use Rattle.promises.specs.Volumes.FreeLaws.{extentsBelow}
@@ -45,6 +46,13 @@ module _ (judger : List ℕ → Response Judged) (judges : Meets (contract judge
   module _ (image : List ℕ) (g : Geometry) (accepts : judger image .answer ≡ Volume g) where
     pub accepted : judged image ≡ Volume g
     accepted = sym (judges image .0) ∙ accepts
+
+    -- the numbers are those that VOL1 and ERMAP spell, and the image has the length that they give
+    pub numbers-are : g ≡ volumeOf image
+    numbers-are = sym (stages-of image g accepted .numbers)
+
+    pub length-is : length image ≡ imageLength g
+    length-is = image-length image g accepted
 
     -- L, I, D, P and S are those that VOL1 may have, and the image is "from 1,548 to 5,283,408" bytes long
     pub numbers-in-range : Numbers g

@@ -12,8 +12,9 @@ use Rattle.standard.specs.Characters.{bytes}
 use Rattle.standard.specs.Layout.{indexSectors, labelAt}
 use Rattle.standard.specs.Judgement.{judged}
 use Rattle.standard.specs.Files.{extent, blockCount, openRefusal, fileIn}
-use Rattle.standard.specs.Records.{Mode, plain, salvage, Record, File, rec, end, listed, inFile}
-use Rattle.standard.specs.Places.{start, endPlace}
+use Rattle.standard.specs.Records.{Mode, plain, salvage, FileRecord, File, entering, inFile}
+use Rattle.standard.specs.Listed.{rec, end, listed}
+use Rattle.standard.specs.Places.{start, nextBlock, endPlace}
 use Rattle.standard.specs.Damage.{recordsIn, gapsIn, sparedOf, goneOf}
 use Rattle.standard.specs.Pieces.{ahead}
 use Rattle.standard.specs.Reading.{readAnswer, outputAfter}
@@ -25,17 +26,19 @@ use Rattle.standard.specs.declared.Answer.the-variants.{Unanswered, Gap, End, R
 use Rattle.standard.specs.declared.Checked.the-variants.{Passed}
 use Rattle.standard.specs.declared.Judged.the-variants.{Volume}
 use Rattle.promises.specs.Ground.Basics.{never}
-use Rattle.promises.specs.Refusals.ReadingRefused.{LostIn}
+use Rattle.promises.specs.Refusals.ReadingRefused.{LostIn, FirstLost}
 use Rattle.promises.specs.Reading.ReadingLaws.{bodyOf}
 use Rattle.promises.specs.Reading.Following.{Heard, told, gapAt, done, refused, onward, following, heard, heardIn, Fits}
 use Rattle.promises.specs.Reading.AnyPlace.{listedFrom}
 use Rattle.promises.specs.Images.Sectors.{AgreeOn, sectorOf}
-use Rattle.promises.specs.Salvage.Failing.{Failed, Spares, ReadsWhole, gone, expected}
-use Rattle.promises.specs.Salvage.Failable.{failedAt}
+use Rattle.promises.specs.Salvage.Failing.{Failed, Spares, OfBlocks, ReadsWhole, gone, expected}
+use Rattle.promises.specs.Reading.WholeLaws.{opens-whole}
+use Rattle.promises.specs.Salvage.Failable.{failedAt, failedIn, among}
 use Rattle.promises.specs.Salvage.PlainFailed.{FirstGone, NoneGone, cutAt}
-use Rattle.promises.specs.Reading.Runs.{AfterDropped}
-use Rattle.promises.specs.Demands.{gap-stays, end-stays, record-stays, reading-gives, reading-gives-from, record-leads, gap-leads, end-leads, salvage-gives, plain-gives, never-joined, joined-rightly, locality}
-use Rattle.promises.specs.Instances.{image, output, geometry, computed}
+use Rattle.promises.specs.Reading.Runs.{Stands}
+use Rattle.promises.specs.Reading.GoingOn.{Finished}
+use Rattle.promises.specs.Demands.{gap-stays, end-stays, record-stays, reading-gives, reading-gives-from, reading-goes-on, record-leads, gap-leads, end-leads, salvage-gives, plain-gives, blocks-may-fail, never-joined, joined-rightly, locality}
+use Rattle.promises.specs.Instances.{image, output, geometry, bodies, computed, fails-9, of-blocks}
 use Rattle.demanded.specs.Calls.{Response, Meets, Asked, ask, read, contract}
 
 -- A FUNCTION THAT READS, and that it meets the contract, of plain reading or of salvage
@@ -44,6 +47,13 @@ Reader = Asked → Response Answer
 
 abbrev pub Reads : Mode → Reader → Type 0
 Reads m r = Meets (contract (read m)) r
+
+-- one such function: the definitions themselves
+abbrev pub defined : Mode → Reader
+defined m i = record { answer = contract (read m) .result i; after = contract (read m) .left i }
+
+pub defined-reads : (m : Mode) → Reads m (defined m)
+defined-reads m i = (refl, refl)
 
 -- WHAT A CALLER HEARS who reads a place with such a function, and then each place that it hands out, at most n times, stopping at End or a refusal. Each
 -- reading is into the same output, as the one before left it.
@@ -89,7 +99,8 @@ module _ (m : Mode) (r : Reader) (meets : Reads m r) where
         → (k ≤ length out) × (drop k (given .after) ≡ drop k out) × (length (given .after) ≡ length out)
     record-leaves k next h = rw (meets (ask image slot pl out) .1) (record-stays m image slot pl out k next (agreed (RecordOf k next) h))
 
-    -- every place handed out is in the file; a gap's is behind a lost block (`LostIn file b`: block b is lost); End's is (count, 0)
+    -- every place handed out is in the file; a gap's is behind the first lost block from the place on (`FirstLost file a b`: from block a on, b is lost and none
+    -- before it), so that a gap is given for no other block; End's is (count, 0)
     module _ (g : Geometry) (accepted : judged image ≡ Volume g) (next : Place) where
       abbrev file : File
       file = fileIn g image (labelAt g image slot)
@@ -99,7 +110,7 @@ module _ (m : Mode) (r : Reader) (meets : Reads m r) where
 
       pub gap-hands-out : given .answer ≡ Gap next
           → (inFile file next ≡ true)
-          × (b : ℕ) × LostIn file b × (next ≡ record { block = suc b; offset = 0; mark = true })
+          × (b : ℕ) × FirstLost file (pl .block) b × (next ≡ record { block = suc b; offset = 0; mark = true })
       gap-hands-out h = gap-leads image g accepted m slot pl out next (agreed (Gap next) h)
 
       pub end-hands-out : given .answer ≡ End next
@@ -107,11 +118,25 @@ module _ (m : Mode) (r : Reader) (meets : Reads m r) where
       end-hands-out h = end-leads image g accepted m slot pl out next (agreed (End next) h)
 
       -- "No record is ever joined out of two others": its bytes are those of one piece `0`, or of pieces `1`, `2`.., `3` one behind the other, with no lost
-      -- block between, behind what is dropped after a gap (`AfterDropped`, in Runs)
+      -- block between, and these stand first ahead of the place (`Run`, in Runs); only where the mark counts may dropped pieces stand before them
+      -- (`AfterDropped`). `entering`: where the mark counts the reader is `marked`, else `fresh`; `Stands` says of either what stands ahead.
       pub joins-rightly : (k : ℕ) → given .answer ≡ RecordOf k next
-          → (q : Record) × (take k (given .after) ≡ q .body)
-          × AfterDropped (ahead (file .params) (file .blocks) (pl .block) (pl .offset)) q next
+          → (q : FileRecord) × (take k (given .after) ≡ q .body)
+          × Stands (entering m (file .params .format) (pl .offset) (pl .mark)) (ahead (file .params) (file .blocks) (pl .block) (pl .offset)) q next
       joins-rightly k h = rw (meets (ask image slot pl out) .1) (joined-rightly image g accepted m slot pl out k next (agreed (RecordOf k next) h))
+
+    -- "A place at the end of a block's content goes on in the next block": what is read there is what is read at the place to which `nextBlock` moves it. So it is
+    -- wherever only fill is left in a block that is not lost (`Finished`, in GoingOn)
+    pub goes-on : (g : Geometry) → judged image ≡ Volume g → inFile (fileIn g image (labelAt g image slot)) pl ≡ true
+        → Finished (fileIn g image (labelAt g image slot)) pl
+        → let there = r (ask image slot (nextBlock (blockCount g image (labelAt g image slot)) pl) out) in
+        (given .answer ≡ there .answer) × (given .after ≡ there .after)
+    goes-on g accepted inside over =
+        let there = ask image slot (nextBlock (blockCount g image (labelAt g image slot)) pl) out in
+        let same = reading-goes-on image g accepted m slot pl inside over out in (
+          meets (ask image slot pl out) .0 ∙ same .0 ∙ sym (meets there .0),
+          meets (ask image slot pl out) .1 ∙ same .1 ∙ sym (meets there .1),
+        )
 
   -- ======== DEMAND 2
   -- "reading gives exactly the records the standard puts there"; "Any place in the file may be asked". `listed` is the declared list, straight from the blocks,
@@ -139,11 +164,16 @@ module _ (m : Mode) (r : Reader) (meets : Reads m r) where
       )
 
 -- ======== DEMAND 3
+-- THE FILE'S RECORDS, each with the blocks in which it begins and ends: its own list, which ends in End. So nothing of them can be chosen afterwards.
+abbrev pub RecordsOf : Geometry → List ℕ → ℕ → List FileRecord → Type 0
+RecordsOf g image slot rs = listed plain (fileIn g image (labelAt g image slot)) ≡ map rec rs ++ (end ∷ [])
+
 -- "salvage gives, in order, every record no block of which is lost, one gap per lost block at its place, nothing more": what is heard of a file whose records had
 -- these bodies, in an image where sectors have failed (`hit` names them)
 pub record SalvagedAs (salvager : Reader) (g : Geometry) (hit : ℕ → Bool) (image image′ : List ℕ) (slot : ℕ) (bodies : List (List ℕ)) : Type 0 where
-  -- the file's records, each with the blocks in which it begins and ends
-  pub records : List Record
+  -- its records before the failure
+  pub records : List FileRecord
+  pub before : RecordsOf g image slot records
   pub bodies-are : map bodyOf records ≡ bodies
   -- `expected`: block by block a gap for a block that is gone, and otherwise the spared records that end in it; then End. `heardIn`: the list as it is heard with
   -- so much room in the output, which is the list itself up to a record that is too long, where 23 is heard
@@ -154,47 +184,93 @@ pub record SalvagedAs (salvager : Reader) (g : Geometry) (hit : ℕ → Bool) (i
   pub gaps-are : gapsIn (expected g hit image (labelAt g image slot) records)
       ≡ goneOf (gone g hit image (labelAt g image slot)) 0 (blockCount g image (labelAt g image slot))
 
+-- What a plain reader is heard to give then: the records that end before the first lost block, and 20 naming it; or, if no block is lost, all records and End. (The
+-- output has room for every record: `Fits`. `FirstGone`, `NoneGone`: the first block that is gone; none is. `cutAt b`: the records that end before block b, and 20.)
+pub record ReadAs (reader : Reader) (g : Geometry) (hit : ℕ → Bool) (image image′ : List ℕ) (slot : ℕ) (bodies : List (List ℕ)) : Type 0 where
+  pub records : List FileRecord
+  pub before : RecordsOf g image slot records
+  pub bodies-are : map bodyOf records ≡ bodies
+  pub up-to : (b : ℕ) → FirstGone (gone g hit image (labelAt g image slot)) (blockCount g image (labelAt g image slot)) b → (n : ℕ) (out : List ℕ)
+      → Fits (length out) (map rec records) → followed n reader image′ slot out start ≡ take n (map heard (cutAt b records))
+  pub all : NoneGone (gone g hit image (labelAt g image slot)) (blockCount g image (labelAt g image slot)) → (n : ℕ) (out : List ℕ)
+      → Fits (length out) (map rec records) → followed n reader image′ slot out start ≡ take n (map heard (map rec records ++ (end ∷ [])))
+
 -- "After any of a readable file's sectors fail their check": `reader` reads the file whole before (these bodies and End), and the sectors that `hit` names fail
--- (`Failed`: the other sectors have the same bytes, those have the kind of a failed check and any bytes behind it). `Spares`: any sector may fail but those of
--- the index cylinder and those of defective records of this file's extent.
+-- (`Failed`: the other sectors have the same bytes, those have the kind of a failed check and any bytes behind it).
 module _ (reader salvager : Reader) (reads : Reads plain reader) (salvages : Reads salvage salvager)
     (image image′ : List ℕ) (g : Geometry) (slot : ℕ) (bodies : List (List ℕ)) (hit : ℕ → Bool) (accepted : judged image ≡ Volume g)
     (readings : ℕ) (lent : List ℕ) (readable : followed readings reader image slot lent start ≡ map told bodies ++ (done ∷ []))
-    (fail : Failed g hit image image′) (spares : Spares g hit image (labelAt g image slot)) where
+    (fail : Failed g hit image image′) where
   whole : ReadsWhole image slot bodies
   whole = record { readings = readings; out = lent; hears = sym (followed-is plain reader reads readings image slot lent start) ∙ readable }
 
-  pub salvager-gives : SalvagedAs salvager g hit image image′ slot bodies
-  salvager-gives =
-      let s = salvage-gives image image′ g slot bodies hit accepted whole fail spares in
-      record {
-        records = s .0;
-        bodies-are = s .1;
-        is-heard = λ n out. followed-is salvage salvager salvages n image′ slot out start ∙ s .3 n out;
-        records-are = sym (ap recordsIn (s .2 .list)) ∙ s .2 .list-records;
-        gaps-are = sym (ap gapsIn (s .2 .list)) ∙ s .2 .list-gaps;
-      }
+  -- MORE THAN IS DEMANDED. `Spares`: any sector may fail but those of the index cylinder and those of defective records of this file's extent.
+  module _ (spares : Spares g hit image (labelAt g image slot)) where
+    pub salvager-gives : SalvagedAs salvager g hit image image′ slot bodies
+    salvager-gives =
+        let s = salvage-gives image image′ g slot bodies hit accepted whole fail spares in
+        record {
+          records = s .0;
+          before = s .2 .before;
+          bodies-are = s .1;
+          is-heard = λ n out. followed-is salvage salvager salvages n image′ slot out start ∙ s .3 n out;
+          records-are = sym (ap recordsIn (s .2 .list)) ∙ s .2 .list-records;
+          gaps-are = sym (ap gapsIn (s .2 .list)) ∙ s .2 .list-gaps;
+        }
 
-  -- and the plain reader gives the records that end before the first lost block, and then 20 naming it; or, if no block is lost, all records and End. (The
-  -- output has room for every record: `Fits`. `FirstGone`, `NoneGone`: the first block that is gone; none is. `cutAt b`: the records that end before block b, and 20.)
-  pub reader-gives : (rs : List Record) × (map bodyOf rs ≡ bodies)
-      × ((b : ℕ) → FirstGone (gone g hit image (labelAt g image slot)) (blockCount g image (labelAt g image slot)) b → (n : ℕ) (out : List ℕ)
-      → Fits (length out) (map rec rs) → followed n reader image′ slot out start ≡ take n (map heard (cutAt b rs)))
-      × (NoneGone (gone g hit image (labelAt g image slot)) (blockCount g image (labelAt g image slot)) → (n : ℕ) (out : List ℕ)
-      → Fits (length out) (map rec rs) → followed n reader image′ slot out start ≡ take n (map heard (map rec rs ++ (end ∷ []))))
-  reader-gives =
-      let p = plain-gives image image′ g slot bodies hit accepted whole fail spares in (
-        p .0,
-        p .1,
-        (λ b first n out room. followed-is plain reader reads n image′ slot out start ∙ p .2 .1 b first .answers n out room),
-        (λ none n out room. followed-is plain reader reads n image′ slot out start ∙ p .2 .2 none .answers n out room),
-      )
+    pub reader-gives : ReadAs reader g hit image image′ slot bodies
+    reader-gives =
+        let p = plain-gives image image′ g slot bodies hit accepted whole fail spares in
+        record {
+          records = p .0;
+          before = p .2 .0;
+          bodies-are = p .1;
+          up-to = λ b first n out room. followed-is plain reader reads n image′ slot out start ∙ p .2 .1 b first .answers n out room;
+          all = λ none n out room. followed-is plain reader reads n image′ slot out start ∙ p .2 .2 none .answers n out room;
+        }
 
-  -- "No record is ever joined out of two others": whatever the salvager gives as a record was a record of the file before
-  pub joins-none : (n : ℕ) (out body : List ℕ) → List·Memᴰ (told body) (followed n salvager image′ slot out start) → List·Memᴰ body bodies
-  joins-none n out body h =
-      never-joined image image′ g slot bodies hit accepted whole fail spares n out body
-      (subst (λ (hs : List Heard). List·Memᴰ (told body) hs) (followed-is salvage salvager salvages n image′ slot out start) h)
+    -- "No record is ever joined out of two others": whatever the salvager gives as a record was a record of the file before
+    pub joins-none : (n : ℕ) (out body : List ℕ) → List·Memᴰ (told body) (followed n salvager image′ slot out start) → List·Memᴰ body bodies
+    joins-none n out body h =
+        never-joined image image′ g slot bodies hit accepted whole fail spares n out body
+        (subst (λ (hs : List Heard). List·Memᴰ (told body) hs) (followed-is salvage salvager salvages n image′ slot out start) h)
+
+  -- THE DEMAND. `OfBlocks`: only sectors fail in which a block of the file lies, any of them.
+  module _ (of-blocks : OfBlocks g hit image (labelAt g image slot)) where
+    spared : Spares g hit image (labelAt g image slot)
+    spared = blocks-may-fail image g slot hit accepted (opens-whole image g slot bodies accepted whole) of-blocks
+
+    pub salvager-gives-demanded : SalvagedAs salvager g hit image image′ slot bodies
+    salvager-gives-demanded = salvager-gives spared
+
+    pub reader-gives-demanded : ReadAs reader g hit image image′ slot bodies
+    reader-gives-demanded = reader-gives spared
+
+    pub joins-none-demanded : (n : ℕ) (out body : List ℕ) → List·Memᴰ (told body) (followed n salvager image′ slot out start) → List·Memᴰ body bodies
+    joins-none-demanded = joins-none spared
+
+-- IT LEAVES NO CHOICE: whoever is heard as demanded, by whatever code, is heard alike. (Were the records tied to the file by their bodies alone, one who never
+-- gives a record could be heard as demanded, its blocks being said to be others.)
+rec-same : {r q : FileRecord} → rec r ≡ rec q → r ≡ q
+rec-same e = cc
+
+records-same : (rs qs : List FileRecord) → map rec rs ++ (end ∷ []) ≡ map rec qs ++ (end ∷ []) → rs ≡ qs
+records-same [] [] e = refl
+records-same [] (q ∷ qs) e = never (cc)
+records-same (r ∷ rs) [] e = never (cc)
+records-same (r ∷ rs) (q ∷ qs) e =
+    let h : r ≡ q = rec-same (cc) in
+    let t : map rec rs ++ (end ∷ []) ≡ map rec qs ++ (end ∷ []) = cc in
+    ap (λ (x : FileRecord). x ∷ rs) h ∙ ap (λ (xs : List FileRecord). q ∷ xs) (records-same rs qs t)
+
+pub salvaged-alike : (salvager other : Reader) (g : Geometry) (hit : ℕ → Bool) (image image′ : List ℕ) (slot : ℕ) (bodies bodies′ : List (List ℕ))
+    → SalvagedAs salvager g hit image image′ slot bodies → SalvagedAs other g hit image image′ slot bodies′
+    → (n : ℕ) (out : List ℕ) → followed n salvager image′ slot out start ≡ followed n other image′ slot out start
+salvaged-alike salvager other g hit image image′ slot bodies bodies′ s t n out =
+    let same : s .records ≡ t .records = records-same (s .records) (t .records) (sym (s .before) ∙ t .before) in
+    s .is-heard n out
+    ∙ ap (λ (rs : List FileRecord). heardIn (length out) (take n (expected g hit image (labelAt g image slot) rs))) same
+    ∙ sym (t .is-heard n out)
 
 -- ======== WHAT HAS TO BE REJECTED
 -- "These programs have to be rejected: one refusing everything and one naming the same record each time ..; a reader or salvager that gives the first record
@@ -237,10 +313,29 @@ module _ (r : Reader) (meets : Reads salvage r) where
   pub no-stopping-salvage : (body : List ℕ) → followed 4 r (failedAt geometry 9 image) 1 output start ≡ told body ∷ done ∷ [] → ⊥
   no-stopping-salvage body h = let e = sym (salvager-heard r meets) ∙ h in never (cc)
 
--- one that invents a gap: where no block of the file is lost, none is answered, whatever the place
+-- One that gives what stands before the lost block, its gap and End, and never the record behind it, is not heard as demanded, whatever it is heard to do
+-- elsewhere. (`failedIn geometry (9 ∷ [])` is the same image; nothing is asked of the contract here: it is the demand's own words that rule it out.)
+demanded-here : SalvagedAs (defined salvage) geometry (among (9 ∷ [])) image (failedIn geometry (9 ∷ []) image) 1 bodies
+demanded-here =
+    salvager-gives-demanded (defined plain) (defined salvage) (defined-reads plain) (defined-reads salvage) image (failedIn geometry (9 ∷ []) image) geometry 1 bodies (among (9 ∷ []))
+    (computed .0) 4 output (reader-heard (defined plain) (defined-reads plain)) fails-9 of-blocks
+
+one-failed : failedIn geometry (9 ∷ []) image ≡ failedAt geometry 9 image
+unfolding failedIn
+one-failed = refl
+
+pub no-dropping : (r : Reader) → SalvagedAs r geometry (among (9 ∷ [])) image (failedIn geometry (9 ∷ []) image) 1 bodies
+    → followed 4 r (failedIn geometry (9 ∷ []) image) 1 output start ≡ told (bytes "AAAAAAAA") ∷ gapAt 1 ∷ done ∷ [] → ⊥
+no-dropping r s h =
+    let other = salvaged-alike r (defined salvage) geometry (among (9 ∷ [])) image (failedIn geometry (9 ∷ []) image) 1 bodies bodies s demanded-here 4 output in
+    let heard = ap (λ (t : List ℕ). followed 4 (defined salvage) t 1 output start) one-failed ∙ salvager-heard (defined salvage) (defined-reads salvage) in
+    let e = sym h ∙ other ∙ heard in
+    never (cc)
+
+-- one that invents a gap: where no block is lost from the place on, none is answered
 pub no-inventing : (m : Mode) (r : Reader) → Reads m r → (image : List ℕ) (g : Geometry) (slot : ℕ) → judged image ≡ Volume g
-    → ((b : ℕ) → LostIn (fileIn g image (labelAt g image slot)) b → ⊥)
-    → (pl : Place) (out : List ℕ) (next : Place) → r (ask image slot pl out) .answer ≡ Gap next → ⊥
-no-inventing m r meets image g slot accepted none pl out next h =
-    let (inside, b, lost, at) = gap-hands-out m r meets image slot pl out g accepted next h in
-    none b lost
+    → (pl : Place) → ((b : ℕ) → pl .block ≤ b → LostIn (fileIn g image (labelAt g image slot)) b → ⊥)
+    → (out : List ℕ) (next : Place) → r (ask image slot pl out) .answer ≡ Gap next → ⊥
+no-inventing m r meets image g slot accepted pl none out next h =
+    let (inside, b, first, at) = gap-hands-out m r meets image slot pl out g accepted next h in
+    none b (first .behind) (first .is-lost)

@@ -8,12 +8,12 @@ use mathlib.Core.Path.{_≡_, refl, sym, ap, subst, _∙_}
 use mathlib.Core.Bool.{Bool, true, false}
 use mathlib.Core.Logic.{_⊎_, inl, inr}
 use mathlib.Core.List.{List, [], _∷_, _++_, map}
-use lib.ListN.{length, getD, replicate, take}
+use lib.ListN.{length, getD, replicate, take, drop}
 use native.Mathlib.Omega.{arith}
 use borrow.Author.Tests.{lt-ltb, le-ltb, le-leb}
 use Rattle.standard.specs.Characters.{bytes, field, isDigit, digitValue}
 use Rattle.standard.specs.Layout.{kAt, bodySize, kindOffset, bodyOffset, slotCount, slotOrdinal, labelOffset, labelAt}
-use Rattle.standard.specs.Addresses.{legal, rank, stepped, firstAddress, fiveBytes, addressIn}
+use Rattle.standard.specs.Addresses.{legal, rank, ordinal, stepped, firstAddress, fiveBytes, addressIn}
 use Rattle.standard.specs.Labels.{startOf, endOf, dataEndOf}
 use Rattle.standard.specs.Judgement.{judged}
 use Rattle.standard.specs.Finding.{found, foundAt}
@@ -22,7 +22,7 @@ use Rattle.standard.specs.Files.{addressesFrom, isDefective, goodRecords, recor
 use Rattle.standard.specs.Records.{Mode, plain, salvage}
 use Rattle.standard.specs.Places.{start}
 use Rattle.standard.specs.Reading.{readAnswer, outputAfter}
-use Rattle.standard.specs.Writing.{parted, needed, packing, writeList, writeRefusal, unusedField, nextDataEnd, dataEndAfter, written, imageAfter}
+use Rattle.standard.specs.Writing.{parted, needed, packing, filledTo, writeList, writeRefusal, unusedField, nextDataEnd, dataEndAfter, written, imageAfter}
 use Rattle.standard.specs.declared.Geometry.{Geometry}
 use Rattle.standard.specs.declared.Address.{Address}
 use Rattle.standard.specs.declared.Place.{Place}
@@ -41,18 +41,19 @@ use Rattle.promises.specs.Volumes.AcceptedLaws.{InRange, has-slot}
 use Rattle.promises.specs.Writing.ReadBack.{enough-records}
 use Rattle.promises.specs.Writing.AcceptedWrite.{passing, label-range, after-is}
 use Rattle.promises.specs.Writing.WrittenLabel.{records-some, new-end}
-use Rattle.promises.specs.Writing.WriteEnds.{end-of-none, end-of-some, end-of-all, end-behind}
+use Rattle.promises.specs.Writing.WriteEnds.{end-of-none, end-of-some, end-of-all, end-behind, written-sector}
 use Rattle.promises.specs.Writing.WritingPromises.{joined, answers, labels-stay, needing-again}
 use Rattle.promises.specs.Writing.WrittenHeard.{RoomFor, toldIn, written-heard-in, written-whole}
+use Rattle.promises.specs.Images.Sectors.{sectorAt}
 use Rattle.promises.specs.Images.ByteSectors.{MayChange}
 use Rattle.promises.specs.Refusals.Refusing.{Exactly, order-first, first-order, accepted-write}
 use Rattle.promises.specs.Reading.Following.{told, done, following}
-use Rattle.promises.specs.Salvage.Failing.{Failed, Spares}
+use Rattle.promises.specs.Salvage.Failing.{Failed, Spares, OfBlocks, ReadsWhole}
 use Rattle.promises.specs.Demands.{write-list, write-counts, write-reads-back, write-changes-no-more, write-sets, write-stays-accepted, others-stay, finding-stays}
 use Rattle.promises.specs.Instances.{demo, demoVolume, demoBodies, demoLengths, demo-accepted, demo-heard}
-use Rattle.demanded.specs.Calls.{Response, Meets, ByName, InSlot, Given, named, inSlot, ask, give, judge, find, find-slot, free, count, read, write, contract}
-use Rattle.demanded.specs.Called.{alike, answered, refuses-exactly}
-use Rattle.demanded.specs.Readers.{Reader, Reads, followed, followed-is, SalvagedAs, salvager-gives}
+use Rattle.demanded.specs.Calls.{Response, Meets, ByName, InSlot, Given, named, inSlot, ask, give, judge, find, find-slot, free, count, write, contract}
+use Rattle.demanded.specs.Called.{alike, refuses-exactly}
+use Rattle.demanded.specs.Readers.{Reader, Reads, defined, defined-reads, followed, followed-is, SalvagedAs, salvager-gives, salvager-gives-demanded}
 use Rattle.demanded.specs.CarryLaws.{last-between, end-behind-last, defects-between, goes-on-inside, goes-on-end, needed-some, needed-none, no-record-heard}
 
 -- A FUNCTION THAT WRITES, and that it meets the contract
@@ -199,18 +200,24 @@ module _ (w : Writer) (meets : Writes w) where
         ∙ ap (λ (s : List ℕ). following readings m s slot out start) left
         ∙ written-heard-in image g slot bodies lengths accepted passed m readings out
 
-    -- and after any of the sectors fail that demand 3 speaks of, salvage gives of the records written every one no block of which is lost, and one gap for each
-    -- lost block
-    pub salvages-back : (salvager : Reader) → Reads salvage salvager → (image′ : List ℕ) (hit : ℕ → Bool) → Failed g hit after image′
-        → Spares g hit after (labelAt g after slot) → SalvagedAs salvager g hit after image′ slot (parted bodies lengths)
-    salvages-back salvager salvages image′ hit fail spares =
-        let heard = written-whole image g slot bodies lengths accepted passed in
-        let reader = answered (contract (read plain)) in
-        let again =
-        followed-is plain _ reader (heard .readings) after slot (heard .out) start
-        ∙ ap (λ (s : List ℕ). following (heard .readings) plain s slot (heard .out) start) left
-        ∙ heard .hears in
-        salvager-gives _ salvager reader salvages after image′ g slot (parted bodies lengths) hit stays-accepted (heard .readings) (heard .out) again fail spares
+    -- and after any sectors fail in which a block of the file lies, as demand 3 has it, salvage gives of the records written every one no block of which is lost,
+    -- and one gap for each lost block; so it does, more than is demanded, after any fail but those that `Spares` (in Failing) excepts
+    whole-again : ReadsWhole after slot (parted bodies lengths)
+    whole-again = subst (λ (s : List ℕ). ReadsWhole s slot (parted bodies lengths)) (sym left) (written-whole image g slot bodies lengths accepted passed)
+
+    heard-again : followed (whole-again .readings) (defined plain) after slot (whole-again .out) start ≡ map told (parted bodies lengths) ++ (done ∷ [])
+    heard-again = followed-is plain (defined plain) (defined-reads plain) (whole-again .readings) after slot (whole-again .out) start ∙ whole-again .hears
+
+    module _ (salvager : Reader) (salvages : Reads salvage salvager) (image′ : List ℕ) (hit : ℕ → Bool) (fail : Failed g hit after image′) where
+      pub salvages-back-demanded : OfBlocks g hit after (labelAt g after slot) → SalvagedAs salvager g hit after image′ slot (parted bodies lengths)
+      salvages-back-demanded =
+          salvager-gives-demanded (defined plain) salvager (defined-reads plain) salvages after image′ g slot (parted bodies lengths) hit stays-accepted
+          (whole-again .readings) (whole-again .out) heard-again fail
+
+      pub salvages-back : Spares g hit after (labelAt g after slot) → SalvagedAs salvager g hit after image′ slot (parted bodies lengths)
+      salvages-back =
+          salvager-gives (defined plain) salvager (defined-reads plain) salvages after image′ g slot (parted bodies lengths) hit stays-accepted
+          (whole-again .readings) (whole-again .out) heard-again fail
 
     -- Every other file is as before: every reading of it by whatever function, its count, its label.
     pub others-read-as-before : (other : ℕ) → (other ≡ slot → ⊥) → (m : Mode) (r : Reader) → Reads m r → (pl : Place) (out : List ℕ)
@@ -297,16 +304,26 @@ module _ (w : Writer) (meets : Writes w) where
             let p = accepts-by-the-list image s b l g k accepted .0 e in
             accepts-by-the-list after s b l g k stays-accepted .1 (refusing-stays s b l ∙ p .0, p .1 ∙ needing-stays s b l (p .0)) ∙ sym e
 
-    -- ======== THE CARRY OF THE DATA END
-    -- "after a write that ends at the last sector of a track, side or cylinder the data end is the next track's first address (or the step past the extent),
-    -- never the extent's start unless the list is empty." The data end is the address that field 75-79 of the label spells afterwards. The last record
-    -- written: "blocks take m good records in turn", so it is the last of the first n·m good ones.
+    -- ======== THE SECTORS FILLED
+    -- "blocks take m good records in turn"; "Written records get the valid mark"; "Content left, and physical records' ends, are filled with 00": what stands in the
+    -- i-th record of block b, its kind and its P bytes
     abbrev m : ℕ
     m = recordsToBlock g label
 
     abbrev good : List Address
     good = goodRecords g image label
 
+    pub fills-sectors : (b i : ℕ) → b < n → i < m
+        → let record′ = ordinal g (getD good (b * m + i) firstAddress) in
+        sectorAt g after record′ ≡ kAt g record′ ∷ filledTo (g .P) (take (g .P) (drop (i * g .P) (getD (packing label bodies lengths .contents) b [])))
+    fills-sectors b i l u =
+        ap (λ (s : List ℕ). sectorAt g s (ordinal g (getD good (b * m + i) firstAddress))) left
+        ∙ written-sector image g slot bodies lengths accepted passed b i (omega (arith, needs, l)) u
+
+    -- ======== THE CARRY OF THE DATA END
+    -- "after a write that ends at the last sector of a track, side or cylinder the data end is the next track's first address (or the step past the extent),
+    -- never the extent's start unless the list is empty." The data end is the address that field 75-79 of the label spells afterwards. The last record
+    -- written: "blocks take m good records in turn", so it is the last of the first n·m good ones.
     abbrev dataEnd : Address
     dataEnd = dataEndOf (labelAt g after slot)
 
@@ -452,7 +469,7 @@ module _ (w : Writer) (meets : Writes w) where
   no-sounding-as-before r reads = stored-something r reads .0
 
   pub no-keeping-the-image : w (give demo 1 demoBodies demoLengths) .after ≡ demo → ⊥
-  no-keeping-the-image = stored-something _ (answered (contract (read plain))) .1
+  no-keeping-the-image = stored-something (defined plain) (defined-reads plain) .1
 
   -- or one that stores no record, or only the first, as a reader hears it
   pub no-losing-all : (r : Reader) → Reads plain r → followed 3 r (w (give demo 1 demoBodies demoLengths) .after) 1 (replicate 5 255) start ≡ done ∷ [] → ⊥

@@ -1,11 +1,13 @@
 -- Finding: the walk over the slots, and each way out of a call that looks for a label.
 -- Assumes nothing.
 use Prim.Native.Nat.{ℕ, zero, suc, _+_, _-_, _<_, _≤_}
-use mathlib.Core.Path.{_≡_, refl, sym, ap, _∙_}
+use mathlib.Core.Path.{_≡_, refl, sym, ap, subst, _∙_}
 use mathlib.Core.Bool.{Bool, true, false, cond, not}
 use mathlib.Core.List.{List, []}
+use lib.ListN.{length}
 use lib.Dec.{eqb}
 use native.Mathlib.Omega.{arith}
+use denote.Ref.{RefT, ptr, now}
 use borrow.Author.Tests.{lt-leb, le-leb, ne-eqb}
 use Rattle.standard.specs.Characters.{same}
 use Rattle.standard.specs.Refusals.{refuse}
@@ -21,9 +23,11 @@ use Rattle.standard.specs.declared.Found.{Found}
 use Rattle.standard.specs.declared.Found.the-variants.{Unfound, At}
 use Rattle.promises.specs.Ground.Basics.{by-test}
 use Rattle.promises.specs.Volumes.AcceptedLaws.{has-slot}
+use Rattle.layout.specs.Parts.{standsAt}
 use Rattle.layout.specs.Room.{Room}
 use Rattle.index.specs.Whole.{Slotted}
 use Rattle.index.proofs.NameLaws.{knownIn}
+use Rattle.finding.specs.Handed.{HandedOut}
 use Rattle.finding.specs.Slot.{slotIn, slotNamed}
 
 -- a test of what a call answered, said of what the call is about
@@ -170,3 +174,14 @@ module _ (image : List ℕ) (r : Refusal) (j : judged image ≡ Refused r) where
   pub slot-label-refused : (slot : ℕ) → [] ≡ labelInSlot image slot
   unfolding labelInSlot
   slot-label-refused slot = rw j
+
+-- what is handed out: nothing, or the label where it stands
+module _ (image : RefT (List ℕ)) (f : Found) (r : RefT (List ℕ)) where
+  pub hands-nothing : (refusal : Refusal) → Unfound refusal ≡ f → now r ≡ [] → HandedOut image f r
+  unfolding HandedOut
+  hands-nothing refusal e h = subst (λ (x : Found). HandedOut image x r) e h
+
+  pub hands-label : (g : Geometry) (slot : ℕ) → At slot (labelOffset g slot) ≡ f → now r ≡ labelAt g (now image) slot → length (now r) ≡ 128
+      → ptr r ≡ standsAt image (labelOffset g slot) → HandedOut image f r
+  unfolding HandedOut labelAt
+  hands-label g slot e h l p = subst (λ (x : Found). HandedOut image x r) e (record { begins = p; long = l; bytes = h })

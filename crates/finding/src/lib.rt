@@ -25,6 +25,7 @@ ghost use Rattle.standard.specs.Slots.{hasLabel};
 ghost use Rattle.standard.specs.Finding.{isNamed, found, foundAt, labelNamed, labelInSlot};
 ghost use Rattle.standard.specs.Writing.{refusal24};
 ghost use Rattle.index.specs.Whole.{Slotted};
+ghost use Rattle.finding.specs.Handed.{HandedOut};
 ghost use Rattle.finding.specs.Slot.{slotNamed, knownFile};
 
 // Whether a slot of the volume has a label. (For layers above: any slot, on an accepted volume.)
@@ -137,9 +138,10 @@ fn nothing(image: &[u8]) -> &[u8]
     &image[0..0]
 }
 
-// "A file's label is handed out as the 128 bytes in the image itself, empty if refused (1-13 only)": a part of the lent image.
+// "A file's label is handed out as the 128 bytes in the image itself, empty if refused (1-13 only)": a part of the lent image, which begins
+// at the offset that `find` and `find_slot` give.
 pub fn label_named<'a, 'b>(image: &'a [u8], name: &'b [u8]) -> &'a [u8]
-    ensures { λ r. ⌜ now r ≡ labelNamed (now (image .entry)) (now (name .entry)) ⌝ }
+    ensures { λ r. ⌜ (now r ≡ labelNamed (now (image .entry)) (now (name .entry))) × (HandedOut (image .entry) (found (now (image .entry)) (now (name .entry))) r) ⌝ }
 {
     let j = judge(image);
     let Judged::Volume(g) = j else {
@@ -153,7 +155,7 @@ pub fn label_named<'a, 'b>(image: &'a [u8], name: &'b [u8]) -> &'a [u8]
 }
 
 pub fn label_in_slot(image: &[u8], slot: u64) -> &[u8]
-    ensures { λ r. ⌜ now r ≡ labelInSlot (now (image .entry)) slot ⌝ }
+    ensures { λ r. ⌜ (now r ≡ labelInSlot (now (image .entry)) slot) × (HandedOut (image .entry) (foundAt (now (image .entry)) slot) r) ⌝ }
 {
     let j = judge(image);
     let Judged::Volume(g) = j else {

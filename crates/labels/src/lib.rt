@@ -101,7 +101,7 @@ pub fn data_end_rank(g: Geometry, h: &[u8]) -> u64
     spelled_rank(g, &h[74..79])
 }
 
-// "40 space or F (fixed), V, S": the format of a label.
+// The format of a label.
 pub fn form_of(h: &[u8]) -> Form
     requires { ⌜ length (now h) ≡ 128 ⌝ }
     ensures { λ r. ⌜ r ≡ formIn (formatOf (now (h .entry))) ⌝ }

@@ -1,22 +1,23 @@
 -- The list of records as it will stand, record by record; and that it is what the definitions pack.
 -- Assumes nothing.
-use Prim.Native.Nat.{ℕ, zero, suc, _+_, _-_, _*_, _<_, _≤_}
+use Prim.Native.Nat.{ℕ, zero, suc, _+_, _-_, _*_, _/_, _<_, _≤_}
 use mathlib.Core.Path.{_≡_, refl, sym, ap, _∙_}
 use mathlib.Core.Bool.{Bool, true, false, cond}
-use mathlib.Core.List.{List, [], _∷_, _++_, map, append-assoc}
+use mathlib.Core.List.{List, [], _∷_, _++_, map, flatten, append-assoc}
 use lib.ListN.{length, length-replicate, replicate-append-replicate, take, drop, length-append, length-drop}
 use lib.Seq.{take-nil, drop-nil}
 use lib.Dec.{leb}
 use native.Mathlib.Omega.{arith}
-use native.Mathlib.Nat.{not-suc-le-zero, sub-zero, mul-le-mul-right}
+use native.Mathlib.Nat.{not-suc-le-zero, sub-zero, le-div-iff-mul-le}
 use borrow.Author.Tests.{le-leb, lt-leb, leb-false}
 use Rattle.standard.specs.Labels.{fixed, variable, spanned}
-use Rattle.standard.specs.Packing.{Laid, then, thenNext, fill, placeIf, recordV, lay, layOne, segment, segmentRole, spreadIf, spread, least, startIf, layS, packIn}
+use Rattle.standard.specs.Packing.{Packing, fill, layF, recordV, layOne, segmentRole, segment, Laid, thenHere, thenNext, spreadIf, spread, least, startIf, layS, packIn}
 use Rattle.standard.specs.Writing.{filledTo}
-use Rattle.promises.specs.Ground.Lists.{Every}
-use Rattle.promises.specs.Writing.NeededLaws.{least-for}
+use Rattle.promises.specs.Ground.Lists.{Every, every-drop}
+use Rattle.promises.specs.Writing.Laying.{placeIf, lay, laid-V}
+use Rattle.promises.specs.Writing.NeededLaws.{least-for, Tiled, every-lengths}
 use Rattle.promises.specs.Writing.WritingPromises.{joined}
-use Rattle.promises.specs.Writing.WritingLaws.{segment-length, recordV-length, least-five, goes-on}
+use Rattle.promises.specs.Writing.WritingLaws.{segment-length, recordV-length, within-V, least-five, goes-on}
 use Rattle.filling.specs.Poured.{flat}
 use Rattle.filling.proofs.RunLaws.{take-over, drop-over}
 use Rattle.laying.specs.Ahead.{flatLaid, layFrom, fitsAs, chunked, chunks}
@@ -43,7 +44,7 @@ unfolding filledTo
 filled-none size = ap fill (sub-zero size)
 
 -- ---- bytes, and then what follows, in the same block; in the next
-flat-then : (size rest : ℕ) (e : List ℕ) (l : Laid) → flatLaid size rest (then e l) ≡ e ++ flatLaid size (rest - length e) l
+flat-then : (size rest : ℕ) (e : List ℕ) (l : Laid) → flatLaid size rest (thenHere e l) ≡ e ++ flatLaid size (rest - length e) l
 flat-then size rest e l =
     ap (λ (s : List ℕ). s ++ flat size (l .later)) (filled-behind rest e (l .here))
     ∙ append-assoc e (filledTo (rest - length e) (l .here)) (flat size (l .later))
@@ -58,8 +59,8 @@ pub place-step : (t : Bool) (size B room rest : ℕ) (e : List ℕ) (more : ℕ 
     ≡ cond t [] (fill rest) ++ (e ++ flatLaid size (cond t rest size - length e) (more (cond t room B - length e)))
 place-step true size B room rest e more h = flat-then size rest e (more (room - length e))
 place-step false size B room rest e more h =
-    flat-next size rest (fill room) (then e (more (B - length e)))
-    ∙ (ap (λ (s : List ℕ). s ++ flatLaid size size (then e (more (B - length e)))) (fill-filled rest room h)
+    flat-next size rest (fill room) (thenHere e (more (B - length e)))
+    ∙ (ap (λ (s : List ℕ). s ++ flatLaid size size (thenHere e (more (B - length e)))) (fill-filled rest room h)
     ∙ ap (λ (s : List ℕ). fill rest ++ s) (flat-then size size e (more (B - length e))))
 
 -- S: "a segment starts where 6 bytes are left (5 for an empty record)"
@@ -119,8 +120,8 @@ spread-on size B room rest begun body more over-room h hb r =
 
 -- ---- WHAT THE DEFINITIONS PACK
 place-same : (t : Bool) (B room : ℕ) (e : List ℕ) (f g : ℕ → Laid) → ((r : ℕ) → f r ≡ g r) → placeIf t B room e f ≡ placeIf t B room e g
-place-same true B room e f g h = ap (then e) (h (room - length e))
-place-same false B room e f g h = ap (λ (l : Laid). thenNext (fill room) (then e l)) (h (B - length e))
+place-same true B room e f g h = ap (thenHere e) (h (room - length e))
+place-same false B room e f g h = ap (λ (l : Laid). thenNext (fill room) (thenHere e l)) (h (B - length e))
 
 spread-same : (n B : ℕ) (begun : Bool) (room : ℕ) (body : List ℕ) (f g : ℕ → Laid) → ((r : ℕ) → f r ≡ g r) → spread n B begun room body f ≡ spread n B begun room body g
 unfolding spread
@@ -129,7 +130,7 @@ spread-same (suc n) B begun room body f g h = go (leb (5 + length body) room) (s
   where
     go : (t : Bool) → spread n B true B (drop (room - 5) body) f ≡ spread n B true B (drop (room - 5) body) g
         → spreadIf t begun room body f (λ rest. spread n B true B rest f) ≡ spreadIf t begun room body g (λ rest. spread n B true B rest g)
-    go true e = ap (then (segment (segmentRole begun true) body)) (h (room - (5 + length body)))
+    go true e = ap (thenHere (segment (segmentRole begun true) body)) (h (room - (5 + length body)))
     go false e = ap (λ (l : Laid). thenNext (segment (segmentRole begun false) (take (room - 5) body)) l) e
 
 start-same : (t : Bool) (B room : ℕ) (f g : ℕ → Laid) → ((r : ℕ) → f r ≡ g r) → startIf t B room f ≡ startIf t B room g
@@ -151,7 +152,7 @@ lay-spanned j B room (x ∷ xs) =
 first-whole : (size B : ℕ) (e : List ℕ) (more : ℕ → Laid) → 1 ≤ length e → length e ≤ B
     → flatLaid size 0 (placeIf (leb (length e) 0) B 0 e more) ≡ flatLaid size size (placeIf (leb (length e) B) B B e more)
 unfolding filledTo
-first-whole size B e more lo hi = rw (lt-leb (length e) 0 lo, le-leb (length e) B hi) (flat-next size 0 (fill 0) (then e (more (B - length e))))
+first-whole size B e more lo hi = rw (lt-leb (length e) 0 lo, le-leb (length e) B hi) (flat-next size 0 (fill 0) (thenHere e (more (B - length e))))
 
 first-spanned : (size B : ℕ) (x : List ℕ) (at : ℕ → Laid) → least x ≤ B
     → flatLaid size 0 (startIf (leb (least x) 0) B 0 at) ≡ flatLaid size size (startIf (leb (least x) B) B B at)
@@ -194,27 +195,24 @@ no-records : (size : ℕ) (f : Bool) (j : Bool) (B : ℕ) → flat size [] ≡ f
 unfolding flat layFrom
 no-records size f j B = sym (ap (λ (s : List ℕ). s ++ []) (filled-none 0))
 
-pub every-lengths : (C : ℕ → Type 0) (xs : List (List ℕ)) → Every C (map length xs) → Every (λ x. C (length x)) xs
-every-lengths C [] h = tt
-every-lengths C (x ∷ xs) h = (h .0, every-lengths C xs (h .1))
-
 -- V AND S: the packed blocks are what is laid from no block and no room on
-pub packed-V : (blocked : Bool) (size B : ℕ) (xs : List (List ℕ)) → B ≤ size → Every (fitsAs false B) (map length xs)
-    → flat size (packIn variable blocked B xs .contents) ≡ flatLaid size 0 (layFrom false blocked B 0 xs)
+pub packed-V : (R : ℕ) (blocked : Bool) (size B : ℕ) (xs : List (List ℕ)) → B ≤ size → Every (fitsAs false B) (map length xs)
+    → flat size (packIn variable R blocked B xs .contents) ≡ flatLaid size 0 (layFrom false blocked B 0 xs)
 unfolding lay
-packed-V true size B [] b h = no-records size false true B
-packed-V true size B (x ∷ xs) b h =
+packed-V R true size B [] b h = no-records size false true B
+packed-V R true size B (x ∷ xs) b h =
     let l = recordV-length x in
-    begun size (lay B B (map recordV (x ∷ xs)))
+    ap (λ (k : Packing). flat size (k .contents)) (laid-V R B x xs (within-V B B (omega arith) (x ∷ xs) (every-lengths (λ n. 4 + n ≤ B) (x ∷ xs) h)))
+    ∙ (begun size (lay B B (map recordV (x ∷ xs)))
     ∙ (sym (first-whole size B (recordV x) (λ r. lay B r (map recordV xs)) (omega arith) (omega (arith, h .0)))
-    ∙ ap (flatLaid size 0) (sym (lay-variable B 0 (x ∷ xs))))
-packed-V false size B xs b h = alone-flat size B b xs (every-lengths (λ n. 4 + n ≤ B) xs h)
+    ∙ ap (flatLaid size 0) (sym (lay-variable B 0 (x ∷ xs)))))
+packed-V R false size B xs b h = alone-flat size B b xs (every-lengths (λ n. 4 + n ≤ B) xs h)
 
-pub packed-S : (blocked j : Bool) (size B : ℕ) (xs : List (List ℕ)) → Every (fitsAs true B) (map length xs)
-    → flat size (packIn spanned blocked B xs .contents) ≡ flatLaid size 0 (layFrom true j B 0 xs)
+pub packed-S : (R : ℕ) (blocked j : Bool) (size B : ℕ) (xs : List (List ℕ)) → Every (fitsAs true B) (map length xs)
+    → flat size (packIn spanned R blocked B xs .contents) ≡ flatLaid size 0 (layFrom true j B 0 xs)
 unfolding layS
-packed-S blocked j size B [] h = no-records size true j B
-packed-S blocked j size B (x ∷ xs) h =
+packed-S R blocked j size B [] h = no-records size true j B
+packed-S R blocked j size B (x ∷ xs) h =
     begun size (layS B B (x ∷ xs))
     ∙ (sym (first-spanned size B x (λ r. spread (suc (length x)) B false r x (λ r′. layS B r′ xs)) (omega (arith, least-for x, h .0)))
     ∙ ap (flatLaid size 0) (sym (lay-spanned j B 0 (x ∷ xs))))
@@ -243,53 +241,40 @@ pub chunks-none : (B : ℕ) → chunks B [] ≡ []
 unfolding chunked
 chunks-none B = refl
 
-one-less : (q R : ℕ) → 1 ≤ q → (q - 1) * R ≡ q * R - R
-one-less zero R h = absurd (not-suc-le-zero h)
-one-less (suc q) R h =
-    let z : suc q - 1 ≡ q = omega arith in
-    rw z (omega arith)
-
--- from a point of a block on: what room is left is filled first, and the rest goes into blocks of its own
-abbrev Chunked : ℕ → ℕ → List ℕ → Laid → Type 0
-Chunked B room s l = (l .here ≡ take room s) × (l .later ≡ chunks B (drop room s))
-
-chunks-then : (B room : ℕ) (x s : List ℕ) (l : Laid) → length x ≤ room → Chunked B (room - length x) s l → Chunked B room (x ++ s) (then x l)
-chunks-then B room x s l h k = (
-  ap (λ (y : List ℕ). x ++ y) (k .0) ∙ sym (take-over room x s h),
-  k .1 ∙ ap (chunks B) (sym (drop-over room x s h)),
-)
-
-chunks-first : (B : ℕ) (s : List ℕ) (l : Laid) → 1 ≤ B → 1 ≤ length s → Chunked B B s l → Chunked B 0 s (thenNext (fill 0) l)
-chunks-first B s l b h k =
-    (refl, ap (λ (c : List ℕ). c ∷ l .later) (k .0) ∙ (ap (λ (cs : List (List ℕ)). take B s ∷ cs) (k .1) ∙ sym (chunks-next B s b h)))
-
-lay-chunks : (R q B : ℕ) → 1 ≤ R → 1 ≤ q → B ≡ q * R → (xs : List (List ℕ)) → Every (λ x. length x ≡ R) xs → (j room : ℕ) → room ≡ j * R
-    → Chunked B room (joined xs) (lay B room xs)
-unfolding lay
-lay-chunks R q B r b e [] h j room z = (sym (take-nil room), sym (ap (chunks B) (drop-nil room) ∙ chunks-none B))
-lay-chunks R q B r b e (x ∷ xs) h zero room z =
+-- n records of R bytes are n * R of the bytes
+records-front : (R : ℕ) (xs : List (List ℕ)) → Every (λ x. length x ≡ R) xs → (n : ℕ)
+    → (joined (take n xs) ≡ take (n * R) (joined xs)) × (joined (drop n xs) ≡ drop (n * R) (joined xs))
+unfolding flatten
+records-front R xs h zero =
+    let none : 0 * R ≡ 0 = omega arith in
+    rw none (refl, refl)
+records-front R [] h (suc n) = (sym (take-nil (suc n * R)), sym (drop-nil (suc n * R)))
+records-front R (x ∷ xs) h (suc n) =
     let lx = h .0 in
-    let whole : R ≤ B = omega (arith, e, mul-le-mul-right R b) in
-    let less : (q - 1) * R ≡ q * R - R = one-less q R b in
-    let none : room ≡ 0 = omega (arith, z) in
-    let first : Chunked B B (x ++ joined xs) (then x (lay B (B - length x) xs)) =
-    chunks-then B B x (joined xs) (lay B (B - length x) xs) (omega arith) (lay-chunks R q B r b e xs (h .1) (q - 1) (B - length x) (omega arith)) in
-    rw (none, lt-leb (length x) 0 (omega arith))
-    (chunks-first B (x ++ joined xs) (then x (lay B (B - length x) xs)) (omega arith) (omega (arith, length-append x (joined xs))) first)
-lay-chunks R q B r b e (x ∷ xs) h (suc j) room z =
-    let lx = h .0 in
-    let there : room ≡ R + j * R = omega (arith, z) in
-    rw (le-leb (length x) room (omega arith))
-    (chunks-then B room x (joined xs) (lay B (room - length x) xs) (omega arith) (lay-chunks R q B r b e xs (h .1) j (room - length x) (omega arith)))
+    let k = records-front R xs (h .1) n in
+    let less : suc n * R - length x ≡ n * R = omega arith in
+    let fits : length x ≤ suc n * R = omega arith in (
+      ap (λ (s : List ℕ). x ++ s) (k .0 ∙ ap (λ (m : ℕ). take m (joined xs)) (sym less)) ∙ sym (take-over (suc n * R) x (joined xs) fits),
+      k .1 ∙ ap (λ (m : ℕ). drop m (joined xs)) (sym less) ∙ sym (drop-over (suc n * R) x (joined xs) fits),
+    )
 
-pub packed-F : (blocked : Bool) (size R q B : ℕ) → 1 ≤ R → 1 ≤ q → B ≡ q * R → (xs : List (List ℕ)) → Every (λ x. length x ≡ R) xs
-    → packIn fixed blocked B xs .contents ≡ chunks B (joined xs)
-unfolding lay
-packed-F blocked size R q B r b e [] h = sym (chunks-none B)
-packed-F blocked size R q B r b e (x ∷ xs) h =
-    let k = lay-chunks R q B r b e (x ∷ xs) h q B e in
+groups-chunks : (R n B : ℕ) → 1 ≤ R → 1 ≤ n → 1 ≤ B → B ≡ n * R → (k : ℕ) (xs : List (List ℕ)) → Every (λ x. length x ≡ R) xs → length xs ≤ k
+    → layF k n xs ≡ chunks B (joined xs)
+unfolding layF flatten
+groups-chunks R n B r m b e zero [] h l = sym (chunks-none B)
+groups-chunks R n B r m b e zero (x ∷ xs) h l = absurd (not-suc-le-zero l)
+groups-chunks R n B r m b e (suc k) [] h l = sym (chunks-none B)
+groups-chunks R n B r m b e (suc k) (x ∷ xs) h l =
     let lx = h .0 in
-    let whole : R ≤ B = omega (arith, e, mul-le-mul-right R b) in
-    ap (λ (c : List ℕ). c ∷ lay B B (x ∷ xs) .later) (k .0)
-    ∙ (ap (λ (cs : List (List ℕ)). take B (joined (x ∷ xs)) ∷ cs) (k .1)
-    ∙ sym (chunks-next B (joined (x ∷ xs)) (omega arith) (omega (arith, length-append x (joined xs)))))
+    let s = joined (x ∷ xs) in
+    let front = records-front R (x ∷ xs) h n in
+    let here : joined (take n (x ∷ xs)) ≡ take B s = front .0 ∙ ap (λ (j : ℕ). take j s) (sym e) in
+    let behind : joined (drop n (x ∷ xs)) ≡ drop B s = front .1 ∙ ap (λ (j : ℕ). drop j s) (sym e) in
+    let later = groups-chunks R n B r m b e k (drop n (x ∷ xs)) (every-drop (λ y. length y ≡ R) n (x ∷ xs) h) (omega (arith, length-drop n (x ∷ xs))) in
+    ap (λ (c : List ℕ). c ∷ layF k n (drop n (x ∷ xs))) here
+    ∙ (ap (λ (cs : List (List ℕ)). take B s ∷ cs) (later ∙ ap (chunks B) behind) ∙ sym (chunks-next B s b (omega (arith, length-append x (joined xs)))))
+
+pub packed-F : (R : ℕ) (blocked : Bool) (B : ℕ) (xs : List (List ℕ)) → Tiled R B (map length xs) → packIn fixed R blocked B xs .contents ≡ chunks B (joined xs)
+packed-F R blocked B xs t =
+    groups-chunks R (B / R) B (t .some) (le-div-iff-mul-le (t .some) .1 (omega (arith, t .high))) (omega (arith, t .some, t .high)) (t .whole) (length xs) xs
+    (every-lengths (λ n. n ≡ R) xs (t .each)) (omega arith)

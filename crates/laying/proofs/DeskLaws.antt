@@ -8,20 +8,21 @@ use lib.ListN.{length, length-replicate, getD, take, drop, length-drop, length-a
 use lib.Seq.{length-take-le, drop-drop, drop-cons, take-all, take-take}
 use lib.Dec.{leb}
 use native.Mathlib.Omega.{arith}
-use native.Mathlib.Nat.{not-suc-le-zero, mul-le-mul-right}
+use native.Mathlib.Nat.{not-suc-le-zero}
 use native.Mathlib.Numerals.{add-one}
 use borrow.Author.Tests.{leb-true, leb-false, le-leb, lt-leb}
 use Rattle.standard.specs.Characters.{padded}
 use Rattle.standard.specs.Labels.{Format, fixed, variable, spanned}
 use Rattle.standard.specs.Pieces.{Role}
-use Rattle.standard.specs.Packing.{Laid, fill, roleByte, placeIf, recordV, layOne, packIn, segment, segmentRole, spread, least, startIf}
+use Rattle.standard.specs.Packing.{fill, recordV, segmentRole, roleByte, segment, Laid, spread, least, startIf, packIn}
 use Rattle.standard.specs.Writing.{total, parted, filledTo}
 use Rattle.standard.specs.declared.Geometry.{Geometry}
 use Rattle.labels.specs.Forms.{formatFor}
 use Rattle.labels.specs.declared.Form.{Form}
 use Rattle.labels.specs.declared.Form.the-variants.{Fixed, Variable, Spanned}
 use Rattle.promises.specs.Ground.Lists.{Every}
-use Rattle.promises.specs.Writing.NeededLaws.{leastFor, least-for, EachFits}
+use Rattle.promises.specs.Writing.Laying.{placeIf, pack-some, pack-none}
+use Rattle.promises.specs.Writing.NeededLaws.{leastFor, least-for, EachFits, Tiled}
 use Rattle.promises.specs.Writing.StoreLaws.{total-drop}
 use Rattle.promises.specs.Writing.WritingPromises.{parted-lengths, parted-joined}
 use Rattle.standard.specs.declared.Address.{Address}
@@ -32,10 +33,10 @@ use Rattle.blocks.proofs.BlockLaws.{drop-take}
 use Rattle.filling.specs.Poured.{poured, laidBy, Lays, packed, wordS, flat}
 use Rattle.filling.proofs.PenLaws.{lays-done, lays-then}
 use Rattle.filling.specs.declared.Pen.{Pen}
-use Rattle.laying.specs.Ahead.{flatLaid, layRecord, layFrom, fitsAs, chunks, Tiled, Shaped, Ready, HasRoom, Steps}
+use Rattle.laying.specs.Ahead.{flatLaid, layRecord, layFrom, fitsAs, chunks, Shaped, Ready, HasRoom, Steps}
 use Rattle.laying.specs.declared.Shape.{Shape}
 use Rattle.laying.specs.declared.Desk.{Desk}
-use Rattle.laying.proofs.AheadLaws.{filled-none, filled-by, packed-F, packed-V, packed-S, chunks-next, chunks-none, every-lengths, place-step, start-step, spread-here, spread-on}
+use Rattle.laying.proofs.AheadLaws.{filled-none, filled-by, packed-F, packed-V, packed-S, chunks-next, chunks-none, place-step, start-step, spread-here, spread-on}
 
 -- two lots of bytes, and what follows
 module _ (g : Geometry) (i i₁ i₂ : List ℕ) (p p₁ p₂ : Pen) (xs ys : List ℕ) (h : Lays g i p xs i₁ p₁) (k : Lays g i₁ p₁ ys i₂ p₂) where
@@ -271,38 +272,33 @@ unfolding filledTo
 filled-some size [] rest h = omega (arith, length-append (fill (size - 0)) rest, length-replicate {A = ℕ} (size - 0) 0)
 filled-some size (x ∷ c) rest h = omega arith
 
-packed-some : (f : Format) (blocked : Bool) (size B : ℕ) (x : List ℕ) (xs : List (List ℕ)) → 1 ≤ size → 1 ≤ length (flat size (packIn f blocked B (x ∷ xs) .contents))
-unfolding flat layOne
-packed-some fixed blocked size B x xs h = filled-some size _ _ h
-packed-some variable true size B x xs h = filled-some size _ _ h
-packed-some variable false size B x xs h = filled-some size _ _ h
-packed-some spanned blocked size B x xs h = filled-some size _ _ h
+flat-some : (size : ℕ) (cs : List (List ℕ)) → 1 ≤ size → 1 ≤ length cs → 1 ≤ length (flat size cs)
+unfolding flat
+flat-some size [] h n = absurd (not-suc-le-zero n)
+flat-some size (c ∷ cs) h n = filled-some size c (flat size cs) h
 
-listed-some : (f : Format) (blocked : Bool) (size B : ℕ) (bodies lengths : List ℕ) → 1 ≤ size → (length lengths ≡ 0 → ⊥)
-    → 1 ≤ length (flat size (packIn f blocked B (parted bodies lengths) .contents))
+listed-some : (f : Format) (R : ℕ) (blocked : Bool) (size B : ℕ) (bodies lengths : List ℕ) → 1 ≤ size → (length lengths ≡ 0 → ⊥)
+    → 1 ≤ length (flat size (packIn f R blocked B (parted bodies lengths) .contents))
 unfolding parted
-listed-some f blocked size B bodies [] h n = absurd (n refl)
-listed-some f blocked size B bodies (k ∷ lengths) h n = packed-some f blocked size B (take k bodies) (parted (drop k bodies) lengths) h
+listed-some f R blocked size B bodies [] h n = absurd (n refl)
+listed-some f R blocked size B bodies (k ∷ lengths) h n = flat-some size _ h (pack-some f R blocked B (take k bodies) (parted (drop k bodies) lengths))
 
-module _ (g : Geometry) (i : List ℕ) (c : Cursor) (f : Format) (blocked : Bool) (size B : ℕ) (bodies lengths : List ℕ) where
+module _ (g : Geometry) (i : List ℕ) (c : Cursor) (f : Format) (R : ℕ) (blocked : Bool) (size B : ℕ) (bodies lengths : List ℕ) where
   abbrev blocksOf : List (List ℕ)
-  blocksOf = packIn f blocked B (parted bodies lengths) .contents
+  blocksOf = packIn f R blocked B (parted bodies lengths) .contents
 
   -- no records: nothing is laid
   pub stored-none : length lengths ≡ 0 → i ≡ poured g (standing g i c) (flat size blocksOf) i
-  unfolding poured parted flat layOne
-  stored-none e = go lengths e f blocked (standing g i c)
+  unfolding poured parted flat
+  stored-none e = go lengths e
     where
       nothing : (more : List Address) → i ≡ poured g more [] i
       nothing [] = refl
       nothing (a ∷ more) = refl
 
-      go : (l : List ℕ) → length l ≡ 0 → (f : Format) (blocked : Bool) (more : List Address) → i ≡ poured g more (flat size (packIn f blocked B (parted bodies l) .contents)) i
-      go [] e fixed blocked more = nothing more
-      go [] e variable true more = nothing more
-      go [] e variable false more = nothing more
-      go [] e spanned blocked more = nothing more
-      go (n ∷ l) e f blocked more = absurd (omega (arith, e))
+      go : (l : List ℕ) → length l ≡ 0 → i ≡ poured g (standing g i c) (flat size (packIn f R blocked B (parted bodies l) .contents)) i
+      go [] e = rw (pack-none f R blocked B) (nothing (standing g i c))
+      go (n ∷ l) e = absurd (omega (arith, e))
 
   -- no good record: nothing is laid
   pub stored-nowhere : c .left ≡ 0 → i ≡ poured g (standing g i c) (flat size blocksOf) i
@@ -315,39 +311,39 @@ module _ (g : Geometry) (i : List ℕ) (c : Cursor) (f : Format) (blocked : Bool
   stored-all i₁ i₂ p r sz some h k =
       let cs = flat size blocksOf in
       let begins : poured g (standing g i c) cs i ≡ laidBy g i₁ p cs =
-      some-bytes (λ (xs : List ℕ). poured g (standing g i c) xs i ≡ laidBy g i₁ p xs) cs (listed-some f blocked size B bodies lengths sz some) h in
+      some-bytes (λ (xs : List ℕ). poured g (standing g i c) xs i ≡ laidBy g i₁ p xs) cs (listed-some f R blocked size B bodies lengths sz some) h in
       sym (begins ∙ (ap (laidBy g i₁ p) (sym (append-nil cs)) ∙ (k .0 [] ∙ lays-done g i₂ r (k .1))))
 
 -- ---- BY THE FORMAT
 pub fits-in : (form f : Form) (B : ℕ) (lengths : List ℕ) → form ≡ f → EachFits (formatFor form) B lengths → EachFits (formatFor f) B lengths
 fits-in form f B lengths e fits = subst (λ (k : Form). EachFits (formatFor k) B lengths) e fits
 
-module _ (g : Geometry) (i i′ : List ℕ) (p p′ : Pen) (blocked : Bool) (B size : ℕ) (bodies lengths : List ℕ) (sum : total lengths ≡ length bodies) where
+module _ (g : Geometry) (i i′ : List ℕ) (p p′ : Pen) (R : ℕ) (blocked : Bool) (B size : ℕ) (bodies lengths : List ℕ) (sum : total lengths ≡ length bodies) where
   abbrev Listed : Format → Type 0
-  Listed f = Lays g i p (flat size (packIn f blocked B (parted bodies lengths) .contents)) i′ p′
+  Listed f = Lays g i p (flat size (packIn f R blocked B (parted bodies lengths) .contents)) i′ p′
 
-  relaid : (f : Format) (xs : List ℕ) → xs ≡ flat size (packIn f blocked B (parted bodies lengths) .contents) → Lays g i p xs i′ p′ → Listed f
+  relaid : (f : Format) (xs : List ℕ) → xs ≡ flat size (packIn f R blocked B (parted bodies lengths) .contents) → Lays g i p xs i′ p′ → Listed f
   relaid f xs e h = subst (λ (ys : List ℕ). Lays g i p ys i′ p′) e h
 
-  listed-F : Tiled B lengths → Lays g i p (flat size (chunks B bodies)) i′ p′ → Listed fixed
+  listed-F : Tiled R B lengths → Lays g i p (flat size (chunks B bodies)) i′ p′ → Listed fixed
   listed-F t h =
-      let each : Every (λ (x : List ℕ). length x ≡ t .R) (parted bodies lengths) = every-lengths (λ n. n ≡ t .R) (parted bodies lengths) (subst (Every (λ n. n ≡ t .R)) (sym (parted-lengths lengths bodies sum)) (t .each)) in
-      relaid fixed _ (ap (flat size) (sym (packed-F blocked size (t .R) (t .q) B (t .some) (t .many) (t .whole) (parted bodies lengths) each ∙ ap (chunks B) (parted-joined lengths bodies sum)))) h
+      let same = packed-F R blocked B (parted bodies lengths) (subst (Tiled R B) (sym (parted-lengths lengths bodies sum)) t) ∙ ap (chunks B) (parted-joined lengths bodies sum) in
+      relaid fixed _ (ap (flat size) (sym same)) h
 
   listed-V : B ≤ size → Every (fitsAs false B) lengths → Lays g i p (flatLaid size 0 (layFrom false blocked B 0 (parted bodies lengths))) i′ p′ → Listed variable
   listed-V b fits h =
-      relaid variable _ (sym (packed-V blocked size B (parted bodies lengths) b (subst (Every (fitsAs false B)) (sym (parted-lengths lengths bodies sum)) fits))) h
+      relaid variable _ (sym (packed-V R blocked size B (parted bodies lengths) b (subst (Every (fitsAs false B)) (sym (parted-lengths lengths bodies sum)) fits))) h
 
   listed-S : Every (fitsAs true B) lengths → Lays g i p (flatLaid size 0 (layFrom true true B 0 (parted bodies lengths))) i′ p′ → Listed spanned
   listed-S fits h =
-      relaid spanned _ (sym (packed-S blocked true size B (parted bodies lengths) (subst (Every (fitsAs true B)) (sym (parted-lengths lengths bodies sum)) fits))) h
+      relaid spanned _ (sym (packed-S R blocked true size B (parted bodies lengths) (subst (Every (fitsAs true B)) (sym (parted-lengths lengths bodies sum)) fits))) h
 
   -- whichever the form is
   module _ (form : Form) (fits : EachFits (formatFor form) B lengths) where
     form-is : (f : Form) → form ≡ f → Listed (formatFor f) → Listed (formatFor form)
     form-is f e h = subst (λ (k : Form). Listed (formatFor k)) (sym e) h
 
-    pub listed-fixed : form ≡ Fixed → (form ≡ Fixed → Tiled B lengths) → Lays g i p (flat size (chunks B bodies)) i′ p′ → Listed (formatFor form)
+    pub listed-fixed : form ≡ Fixed → (form ≡ Fixed → Tiled R B lengths) → Lays g i p (flat size (chunks B bodies)) i′ p′ → Listed (formatFor form)
     listed-fixed e t h = form-is Fixed e (listed-F (t e) h)
 
     pub listed-variable : form ≡ Variable → B ≤ size → Lays g i p (flatLaid size 0 (layFrom false blocked B 0 (parted bodies lengths))) i′ p′ → Listed (formatFor form)
@@ -397,5 +393,5 @@ module _ (g : Geometry) (B size : ℕ) (bodies : List ℕ) where
 pub least-some-of : (B left n : ℕ) → 1 ≤ B → n ≡ cond (leb B left) B left → 1 ≤ left → 1 ≤ n
 least-some-of B left n b e l = subst (λ (k : ℕ). 1 ≤ k) (sym e) (cond-low (leb B left) B left 1 (λ _. b) (λ _. l))
 
-pub tiled-some : (B : ℕ) (lengths : List ℕ) → Tiled B lengths → 1 ≤ B
-tiled-some B lengths t = omega (arith, t .some, t .whole, mul-le-mul-right (t .R) (t .many))
+pub tiled-some : (R B : ℕ) (lengths : List ℕ) → Tiled R B lengths → 1 ≤ B
+tiled-some R B lengths t = omega (arith, t .some, t .high)

@@ -1,15 +1,15 @@
 -- What is still to be laid of a list of records, from some point of a block on, as it will stand over the block's records.
 -- Assumes nothing.
-use Prim.Native.Nat.{ℕ, zero, suc, _+_, _*_, _<_, _≤_}
+use Prim.Native.Nat.{ℕ, zero, suc, _+_, _<_, _≤_}
 use mathlib.Core.Path.{_≡_}
 use mathlib.Core.Bool.{Bool, true, false, cond}
 use mathlib.Core.List.{List, [], _∷_, _++_}
 use lib.ListN.{length, take, drop}
 use lib.Dec.{leb}
-use Rattle.standard.specs.Packing.{Laid, fill, placeIf, recordV, least, startIf, spread}
+use Rattle.standard.specs.Packing.{fill, recordV, Laid, least, startIf, spread}
 use Rattle.standard.specs.Writing.{filledTo}
 use Rattle.standard.specs.declared.Geometry.{Geometry}
-use Rattle.promises.specs.Ground.Lists.{Every}
+use Rattle.promises.specs.Writing.Laying.{placeIf}
 use Rattle.promises.specs.Writing.NeededLaws.{leastFor}
 use Rattle.filling.specs.Poured.{flat, laidBy, Placed, Lays}
 use Rattle.laying.specs.declared.Shape.{Shape}
@@ -43,15 +43,6 @@ chunked (suc n) B (b ∷ s) = take B (b ∷ s) ∷ chunked n B (drop B (b ∷ s)
 
 abbrev pub chunks : ℕ → List ℕ → List (List ℕ)
 chunks B s = chunked (length s) B s
-
--- every record of F has R bytes, and B is a multiple of them
-pub record Tiled (B : ℕ) (lengths : List ℕ) : Type 0 where
-  pub R : ℕ
-  pub some : 1 ≤ R
-  pub q : ℕ
-  pub many : 1 ≤ q
-  pub whole : B ≡ q * R
-  pub each : Every (λ n. n ≡ R) lengths
 
 -- B bytes of content stand in the block's physical records
 abbrev pub Shaped : Shape → Type 0

@@ -15,17 +15,17 @@ use standard::Geometry;
 ghost use mathlib.Core.Path.{_≡_};
 ghost use mathlib.Core.Bool.{true, false, cond};
 ghost use mathlib.Core.List.{_++_};
-ghost use Prim.Native.Nat.{suc, _+_, _*_, _<_, _≤_};
+ghost use Prim.Native.Nat.{ℕ, suc, _+_, _*_, _<_, _≤_};
 ghost use lib.ListN.{length, take, drop};
 ghost use Rattle.standard.specs.Packing.{fill, roleByte, segment, segmentRole, spread, packIn};
 ghost use Rattle.standard.specs.Writing.{total, parted};
 ghost use Rattle.promises.specs.Ground.Lists.{Every};
-ghost use Rattle.promises.specs.Writing.NeededLaws.{leastFor, EachFits};
+ghost use Rattle.promises.specs.Writing.NeededLaws.{leastFor, EachFits, Tiled};
 ghost use Rattle.labels.specs.Forms.{formatFor};
 ghost use Rattle.extents.specs.Cursors.{legalAt, standing};
 ghost use Rattle.layout.specs.Room.{Sized};
 ghost use Rattle.filling.specs.Poured.{poured, flat, Placed, Lays};
-ghost use Rattle.laying.specs.Ahead.{layFrom, layRecord, fitsAs, chunks, Tiled, flatLaid, Shaped, Ready, HasRoom, Steps};
+ghost use Rattle.laying.specs.Ahead.{layFrom, layRecord, fitsAs, chunks, flatLaid, Shaped, Ready, HasRoom, Steps};
 
 // How records are laid one by one: as V, or as S; whether one may stand behind another in its block; B, and the bytes of a block's m physical records.
 pub struct Shape {
@@ -251,7 +251,7 @@ fn lay_blocks(g: Geometry, image: &mut [u8], start: Pen, B: u64, size: u64, bodi
     p
 }
 
-// The list as it is packed into blocks, by its format.
+// The list as it is packed into blocks, by its format. (R is asked in F only, and there it is the length of every record.)
 fn lay_list(
     g: Geometry,
     image: &mut [u8],
@@ -263,8 +263,8 @@ fn lay_list(
     bodies: &[u8],
     lengths: &[u32],
 ) -> Pen
-    requires { ⌜ (Placed g (now image) p) × (B ≤ size) × (size < 4294967296) × (EachFits (formatFor form) B (now lengths)) × (form ≡ Form.Fixed → Tiled B (now lengths)) × (total (now lengths) ≡ length (now bodies)) ⌝ }
-    ensures { λ r. ⌜ Lays g (now (image .entry)) p (flat size (packIn (formatFor form) blocked B (parted (now (bodies .entry)) (now (lengths .entry))) .contents)) (now (image .exit)) r ⌝ }
+    requires { ⌜ (Placed g (now image) p) × (B ≤ size) × (size < 4294967296) × (EachFits (formatFor form) B (now lengths)) × (form ≡ Form.Fixed → (R : ℕ) × Tiled R B (now lengths)) × (total (now lengths) ≡ length (now bodies)) ⌝ }
+    ensures { λ r. ⌜ ((R : ℕ) → (form ≡ Form.Fixed → Tiled R B (now (lengths .entry))) → Lays g (now (image .entry)) p (flat size (packIn (formatFor form) R blocked B (parted (now (bodies .entry)) (now (lengths .entry))) .contents)) (now (image .exit)) r) ⌝ }
 {
     match form {
         Form::Fixed => lay_blocks(g, image, p, B, size, bodies),
@@ -309,8 +309,8 @@ pub fn store(
     bodies: &[u8],
     lengths: &[u32],
 )
-    requires { ⌜ (Sized g (now image)) × (legalAt g c ≡ true) × (1 ≤ m) × (B ≤ m * g .P) × (m * g .P < 4294967296) × (EachFits (formatFor form) B (now lengths)) × (form ≡ Form.Fixed → Tiled B (now lengths)) × (total (now lengths) ≡ length (now bodies)) ⌝ }
-    ensures { λ r. ⌜ now (image .exit) ≡ poured g (standing g (now (image .entry)) c) (flat (m * g .P) (packIn (formatFor form) blocked B (parted (now (bodies .entry)) (now (lengths .entry))) .contents)) (now (image .entry)) ⌝ }
+    requires { ⌜ (Sized g (now image)) × (legalAt g c ≡ true) × (1 ≤ m) × (B ≤ m * g .P) × (m * g .P < 4294967296) × (EachFits (formatFor form) B (now lengths)) × (form ≡ Form.Fixed → (R : ℕ) × Tiled R B (now lengths)) × (total (now lengths) ≡ length (now bodies)) ⌝ }
+    ensures { λ r. ⌜ ((R : ℕ) → (form ≡ Form.Fixed → Tiled R B (now (lengths .entry))) → now (image .exit) ≡ poured g (standing g (now (image .entry)) c) (flat (m * g .P) (packIn (formatFor form) R blocked B (parted (now (bodies .entry)) (now (lengths .entry))) .contents)) (now (image .entry))) ⌝ }
 {
     if lengths.len() == 0 {
         return;

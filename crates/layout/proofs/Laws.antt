@@ -6,12 +6,14 @@ use mathlib.Core.List.{List}
 use lib.ListN.{getD, take, drop}
 use lib.Dec.{eqb}
 use native.Mathlib.Omega.{arith}
+use denote.Ref.{RefT}
 use borrow.Author.Tests.{lt-ltb, le-ltb, le-leb, lt-leb, eq-eqb, ne-eqb}
 use Rattle.standard.specs.Layout.{ordinalAt, indexSectors, kAt, kindOffset, bodyOffset, kindAt, firstByte, slotCount, slotOrdinal, labelOffset, labelAt}
 use Rattle.standard.specs.Defects.{skipOne, physical}
 use Rattle.standard.specs.Addresses.{ordinal}
 use Rattle.standard.specs.declared.Geometry.{Geometry}
 use Rattle.standard.specs.declared.Address.{Address}
+use Rattle.layout.specs.Parts.{standsAt}
 
 -- a sector: in the index cylinder, and behind it
 module _ (g : Geometry) (n r : ℕ) where
@@ -64,6 +66,9 @@ slot-first-is g slot image r a e f = e ∙ ap (λ (m : ℕ). getD image m 0) f
 -- the part of the image that holds a label, or the body of a sector of index side 0
 pub part-of : (s : List ℕ) (a : ℕ) → take (a + 128 - a) (drop a s) ≡ take 128 (drop a s)
 part-of s a = let n : a + 128 - a ≡ 128 = omega arith in ap (λ (m : ℕ). take m (drop a s)) n
+
+pub part-begins : (s : RefT (List ℕ)) (a : ℕ) → _≡_ {A = ℕ × ℕ} (s .ptr .0, a + s .ptr .1) (standsAt s a)
+part-begins s a = let n : a + s .ptr .1 ≡ s .ptr .1 + a = omega arith in ap (λ (m : ℕ). (s .ptr .0, m)) n
 
 pub label-part : (g : Geometry) (s : List ℕ) (slot a : ℕ) → a ≡ labelOffset g slot → take 128 (drop a s) ≡ labelAt g s slot
 unfolding labelAt

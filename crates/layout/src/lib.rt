@@ -15,10 +15,12 @@ ghost use mathlib.Core.Bool.{true};
 ghost use Prim.Native.Nat.{_+_, _-_, _*_, _<_, _≤_};
 ghost use lib.ListN.{length, getD, take, drop};
 ghost use lib.Dec.{eqb};
+ghost use denote.Ref.{ptr};
 ghost use Rattle.standard.specs.Layout.{indexSectors, kAt, kindOffset, bodyOffset, imageLength, kindAt, firstByte, incorrectMark, checkFailed, indexKind, indexBody, slotCount, slotOrdinal, labelOffset, labelAt};
 ghost use Rattle.standard.specs.Defects.{skipOne, physical};
 ghost use Rattle.standard.specs.Addresses.{legal, ordinal, stepped};
 ghost use Rattle.standard.specs.Judgement.{refusal6};
+ghost use Rattle.layout.specs.Parts.{standsAt};
 ghost use Rattle.layout.specs.Room.{Room};
 ghost use Rattle.layout.specs.Runs.{kindOf, legalRun};
 
@@ -67,7 +69,7 @@ fn kind_offset(g: Geometry, n: u64) -> u64
     first * 129 + times16(n - first, wide16(g.P) + 1)
 }
 
-// The byte at an offset, and the 128 from one on.
+// The byte at an offset, and the 128 from one on, in the image itself.
 fn byte_of(image: &[u8], at: u64) -> u64
     requires { ⌜ at < length (now image) ⌝ }
     ensures { λ r. ⌜ (r ≡ getD (now (image .entry)) at 0) × (r < 256) ⌝ }
@@ -77,7 +79,7 @@ fn byte_of(image: &[u8], at: u64) -> u64
 
 fn body_of(image: &[u8], at: u64) -> &[u8]
     requires { ⌜ at + 128 ≤ length (now image) ⌝ }
-    ensures { λ r. ⌜ (now r ≡ take 128 (drop at (now (image .entry)))) × (length (now r) ≡ 128) ⌝ }
+    ensures { λ r. ⌜ (now r ≡ take 128 (drop at (now (image .entry)))) × (length (now r) ≡ 128) × (ptr r ≡ standsAt (image .entry) at) ⌝ }
 {
     let a = at as usize;
     let e = a + 128;
@@ -124,7 +126,7 @@ pub fn label_offset(g: Geometry, slot: u64) -> u64
 
 pub fn label_at(g: Geometry, image: &[u8], slot: u64) -> &[u8]
     requires { ⌜ Room g (now image) slot ⌝ }
-    ensures { λ r. ⌜ (now r ≡ labelAt g (now (image .entry)) slot) × (length (now r) ≡ 128) ⌝ }
+    ensures { λ r. ⌜ (now r ≡ labelAt g (now (image .entry)) slot) × (length (now r) ≡ 128) × (ptr r ≡ standsAt (image .entry) (labelOffset g slot)) ⌝ }
 {
     body_of(image, label_offset(g, slot))
 }

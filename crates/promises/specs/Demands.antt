@@ -10,17 +10,20 @@ use mathlib.Core.Logic.{_⊎_}
 use mathlib.Core.List.{List, _∷_, [], _++_, map, List·Memᴰ}
 use lib.ListN.{length, getD, take, drop}
 use Rattle.standard.specs.Refusals.{refuse}
-use Rattle.standard.specs.Layout.{indexSectors, labelAt, slotCount, labelOffset}
+use Rattle.standard.specs.Layout.{indexSectors, sectorCount, bodySize, bodyOffset, checkFailed, labelAt, slotCount, labelOffset}
 use Rattle.standard.specs.Addresses.{ordinal, fiveBytes, addressCount, legal, rank, stepped}
 use Rattle.standard.specs.Slots.{hasLabel, isLabel}
 use Rattle.standard.specs.Judgement.{judged, volumeOf, volumeList, refusal8to10, refusal11}
-use Rattle.standard.specs.Finding.{found, foundAt, labelNamed}
+use Rattle.standard.specs.Finding.{found, foundAt, labelNamed, labelInSlot}
 use Rattle.standard.specs.Free.{freeCount, freeRecords, inExtent}
 use Rattle.standard.specs.Files.{extent, blockCount, countList, counted, openRefusal, fileIn, blocksHeld}
-use Rattle.standard.specs.Records.{Mode, salvage, Record, listed, inFile, File}
-use Rattle.standard.specs.Places.{start, endPlace}
+use Rattle.standard.specs.Records.{Mode, salvage, FileRecord, entering, inFile, File}
+use Rattle.standard.specs.Listed.{listed}
+use Rattle.standard.specs.Places.{start, nextBlock, endPlace}
 use Rattle.standard.specs.Reading.{Reply, laidOver, readAnswer, outputAfter}
-use Rattle.standard.specs.Writing.{parted, needed, writeList, writeRefusal, written, imageAfter, packing, unusedField, dataEndAfter}
+use Rattle.standard.specs.Writing.{parted, needed, writeList, writeRefusal, written, imageAfter, packing, unusedField, dataEndAfter, splice}
+use Rattle.standard.specs.Creating.{created, imageAfterCreate, deleted, imageAfterDelete}
+use Rattle.standard.specs.Listing.{listing}
 use Rattle.standard.specs.Characters.{field}
 use Rattle.standard.specs.Labels.{knownLevel, nameOf, startOf, endOf}
 use Rattle.standard.specs.Pieces.{ahead}
@@ -47,8 +50,9 @@ use Rattle.promises.specs.Writing.WrittenHeard.{RoomFor, written-heard-a
 use Rattle.promises.specs.Images.ByteSectors.{MayChange, write-changes}
 use Rattle.promises.specs.Volumes.FindingLaws.{find-named, find-none, label-handed-out}
 use Rattle.promises.specs.Volumes.FreeLaws.{extentsBelow, free-counted, free-is}
-use Rattle.promises.specs.Refusals.ReadingRefused.{readList, read-first, record-laid, record-next, gap-next, end-next, LostIn}
+use Rattle.promises.specs.Refusals.ReadingRefused.{readList, read-first, record-laid, record-next, gap-next, end-next, FirstLost}
 use Rattle.promises.specs.Reading.AnyPlace.{listedFrom, following-from}
+use Rattle.promises.specs.Reading.GoingOn.{Finished, goes-on}
 use Rattle.promises.specs.Reading.FollowingLaws.{following-any}
 use Rattle.promises.specs.Extents.ExtentWhole.{extent-exactly, refused-shares}
 use Rattle.promises.specs.Volumes.AcceptedLaws.{label-in-range}
@@ -57,7 +61,12 @@ use Rattle.promises.specs.Writing.AcceptedWrite.{label-range}
 use Rattle.promises.specs.Writing.WrittenLabel.{records-some}
 use Rattle.promises.specs.Salvage.SalvagedHeard.{SalvageHeardPromise, salvage-heard-promise, NeverJoinedAnyPromise, never-joined-any-promise}
 use Rattle.promises.specs.Salvage.SalvageImage.{only-blocks}
-use Rattle.promises.specs.Reading.Runs.{AfterDropped, record-stands}
+use Rattle.promises.specs.Reading.Runs.{Stands, record-stands}
+use Rattle.promises.specs.Images.Untrusted.{SectorsKnown, EqualButFailed}
+use Rattle.promises.specs.Trust.JudgedAlike.{judged-alike, equal-swap}
+use Rattle.promises.specs.Trust.AnswersAlike.{found-alike, found-at-alike, label-named-alike, label-in-alike, free-alike, counted-alike, reply-alike, listing-alike}
+use Rattle.promises.specs.Trust.LeftAlike.{failed-body-any}
+use Rattle.promises.specs.Trust.ChangesAlike.{written-alike, write-leaves-alike, created-alike, create-leaves-alike, deleted-alike, delete-leaves-alike}
 
 -- ======== DEMAND 1
 -- "Every image, name, place and length is taken, untested by the caller." Each definition below is a function of any lists of bytes and any numbers, so
@@ -173,14 +182,25 @@ module _ (image : List ℕ) (g : Geometry) (slot : ℕ) (accepted : judged image
       → following n m image slot out pl ≡ heardIn (length out) (take n (listedFrom m file pl))
   reading-gives-from = following-from image g slot accepted opens
 
--- every place handed out is in the file; a gap's is the start, marked, of the block behind a lost one (`LostIn file b`: block b is lost); End's is (count, 0)
+-- "A place at the end of a block's content goes on in the next block": reading it is reading the place to which `nextBlock` moves it, and so it is wherever only
+-- fill is left in a block that is not lost (`Finished`, in GoingOn; `at-the-end` there: the end of the content is such a place)
+module _ (image : List ℕ) (g : Geometry) (accepted : judged image ≡ Volume g) (m : Mode) (slot : ℕ) (pl : Place) where
+  pub reading-goes-on : inFile (fileIn g image (labelAt g image slot)) pl ≡ true → Finished (fileIn g image (labelAt g image slot)) pl → (out : List ℕ)
+      → (readAnswer m image slot pl out ≡ readAnswer m image slot (nextBlock (blockCount g image (labelAt g image slot)) pl) out)
+      × (outputAfter m image slot pl out ≡ outputAfter m image slot (nextBlock (blockCount g image (labelAt g image slot)) pl) out)
+  reading-goes-on inside over out =
+      let same = goes-on image g accepted m slot pl inside over (length out) in
+      (ap (λ (r : Reply). r .answer) same, ap (λ (r : Reply). laidOver (r .body) out) same)
+
+-- every place handed out is in the file; a gap's is the start, marked, of the block behind the first lost one from the place on (`FirstLost file a b`: from block a
+-- on, b is lost and none before it); End's is (count, 0)
 module _ (image : List ℕ) (g : Geometry) (accepted : judged image ≡ Volume g) (m : Mode) (slot : ℕ) (pl : Place) (out : List ℕ) (next : Place) where
   pub record-leads : (k : ℕ) → readAnswer m image slot pl out ≡ RecordOf k next → inFile (fileIn g image (labelAt g image slot)) next ≡ true
   record-leads = record-next image g accepted m slot pl out next
 
   pub gap-leads : readAnswer m image slot pl out ≡ Gap next
       → (inFile (fileIn g image (labelAt g image slot)) next ≡ true)
-      × (b : ℕ) × LostIn (fileIn g image (labelAt g image slot)) b × (next ≡ record { block = suc b; offset = 0; mark = true })
+      × (b : ℕ) × FirstLost (fileIn g image (labelAt g image slot)) (pl .block) b × (next ≡ record { block = suc b; offset = 0; mark = true })
   gap-leads = gap-next image g accepted m slot pl out next
 
   pub end-leads : readAnswer m image slot pl out ≡ End next
@@ -271,14 +291,14 @@ module _ (image : List ℕ) (g : Geometry) (slot : ℕ) (bodies lengths : List �
 -- a gap, or the records that end there and have no lost block, and then End; both in Failing). What a caller hears is that list. `bodyOf`: a record's bytes.
 module _ (image image′ : List ℕ) (g : Geometry) (slot : ℕ) (bodies : List (List ℕ)) (hit : ℕ → Bool) (accepted : judged image ≡ Volume g)
     (readable : ReadsWhole image slot bodies) (fail : Failed g hit image image′) (spares : Spares g hit image (labelAt g image slot)) where
-  pub salvage-gives : (rs : List Record) × (map bodyOf rs ≡ bodies) × Salvaged g hit image image′ slot rs
+  pub salvage-gives : (rs : List FileRecord) × (map bodyOf rs ≡ bodies) × Salvaged g hit image image′ slot rs
       × ((n : ℕ) (out : List ℕ) → following n salvage image′ slot out start ≡ heardIn (length out) (take n (expected g hit image (labelAt g image slot) rs)))
   unfolding SalvageHeardPromise
   salvage-gives = salvage-heard-promise image image′ g slot bodies hit accepted readable fail spares
 
   -- and plain reading gives the records that end before the first lost block, and then 20 naming it; or, if no block is lost, all records and End
   -- (`PlainlyRead`, in PlainFailed)
-  pub plain-gives : (rs : List Record) × (map bodyOf rs ≡ bodies) × PlainlyRead g hit image image′ slot rs
+  pub plain-gives : (rs : List FileRecord) × (map bodyOf rs ≡ bodies) × PlainlyRead g hit image image′ slot rs
   unfolding PlainFailedAnyPromise
   plain-gives = plain-failed-any-promise image image′ g slot bodies hit accepted readable fail spares
 
@@ -293,11 +313,13 @@ pub blocks-may-fail : (image : List ℕ) (g : Geometry) (slot : ℕ) (hit : ℕ 
 blocks-may-fail = only-blocks
 
 -- The same of any image and any place, readable or not: the bytes of a record given are those of one piece `0`, or of pieces `1`, `2`.., `3` one behind the
--- other, with no lost block between (`AfterDropped`, `Run`; in Runs).
+-- other, with no lost block between, and these stand first ahead of the place (`Run`, in Runs); only where the mark counts may dropped pieces stand before them
+-- (`AfterDropped`). `entering`: where the mark counts the reader is `marked`, else `fresh`; `Stands` says of either what stands ahead.
 pub joined-rightly : (image : List ℕ) (g : Geometry) → judged image ≡ Volume g → (m : Mode) (slot : ℕ) (pl : Place) (out : List ℕ) (k : ℕ) (next : Place)
     → readAnswer m image slot pl out ≡ RecordOf k next
-    → (r : Record) × (take k (outputAfter m image slot pl out) ≡ r .body)
-    × AfterDropped (ahead (fileIn g image (labelAt g image slot) .params) (fileIn g image (labelAt g image slot) .blocks) (pl .block) (pl .offset)) r next
+    → (r : FileRecord) × (take k (outputAfter m image slot pl out) ≡ r .body)
+    × Stands (entering m (fileIn g image (labelAt g image slot) .params .format) (pl .offset) (pl .mark))
+    (ahead (fileIn g image (labelAt g image slot) .params) (fileIn g image (labelAt g image slot) .blocks) (pl .block) (pl .offset)) r next
 joined-rightly = record-stands
 
 -- ======== LOCALITY
@@ -313,3 +335,51 @@ unfolding LocalityPromise
 locality image image′ g g′ slot j j′ index extents =
     let l = locality-promise image image′ g g′ slot j j′ index extents in
     (l .1, l .2, l .3)
+
+-- ======== CHECK FAILED, BODY NOT TRUSTED
+-- "Kind 32+k: check failed, body not trusted." `EqualButFailed image image′`: the images have one length, and every sector has the same bytes in both or is
+-- check-failed in both, whatever stands behind its kind. (In Untrusted. Sectors 01 to 07 are compared on any image; the others where none of the refusals 1 to 5
+-- is given, `SectorsKnown`: only then is it known where they lie.) Two such images, accepted or refused, get equal answers to every call, and a call that changes
+-- them leaves two such images again. So whatever is asked of them, in whatever order, no answer depends on a body that is not trusted.
+module _ (image image′ : List ℕ) (alike : EqualButFailed image image′) where
+  pub untrusted-judged : judged image ≡ judged image′
+  untrusted-judged = judged-alike image image′ alike
+
+  pub untrusted-found : ((name : List ℕ) → found image name ≡ found image′ name) × ((slot : ℕ) → foundAt image slot ≡ foundAt image′ slot)
+      × ((name : List ℕ) → labelNamed image name ≡ labelNamed image′ name) × ((slot : ℕ) → labelInSlot image slot ≡ labelInSlot image′ slot)
+  untrusted-found =
+      (found-alike image image′ alike, found-at-alike image image′ alike, label-named-alike image image′ alike, label-in-alike image image′ alike)
+
+  pub untrusted-counted : ((slot : ℕ) → counted image slot ≡ counted image′ slot) × (freeCount image ≡ freeCount image′)
+  untrusted-counted = (counted-alike image image′ alike, free-alike image image′ alike)
+
+  pub untrusted-listed : listing image ≡ listing image′
+  untrusted-listed = listing-alike image image′ alike
+
+  -- both modes, every place, every output
+  pub untrusted-read : (m : Mode) (slot : ℕ) (pl : Place) (out : List ℕ)
+      → (readAnswer m image slot pl out ≡ readAnswer m image′ slot pl out) × (outputAfter m image slot pl out ≡ outputAfter m image′ slot pl out)
+  untrusted-read m slot pl out =
+      let same = reply-alike image image′ alike m slot pl (length out) in
+      (ap (λ (r : Reply). r .answer) same, ap (λ (r : Reply). laidOver (r .body) out) same)
+
+  -- a write fills sectors whole, and gives them the valid mark; a create and a delete store in a slot that is not check-failed
+  pub untrusted-written : (slot : ℕ) (bodies lengths : List ℕ) → (written image slot bodies lengths ≡ written image′ slot bodies lengths)
+      × EqualButFailed (imageAfter image slot bodies lengths) (imageAfter image′ slot bodies lengths)
+  untrusted-written slot bodies lengths = (written-alike image image′ alike slot bodies lengths, write-leaves-alike image image′ alike slot bodies lengths)
+
+  pub untrusted-created : (fields : List ℕ) (n : ℕ) → (created image fields n ≡ created image′ fields n)
+      × EqualButFailed (imageAfterCreate image fields n) (imageAfterCreate image′ fields n)
+  untrusted-created fields n = (created-alike image image′ alike fields n, create-leaves-alike image image′ alike fields n)
+
+  pub untrusted-deleted : (slot : ℕ) → (deleted image slot ≡ deleted image′ slot) × EqualButFailed (imageAfterDelete image slot) (imageAfterDelete image′ slot)
+  untrusted-deleted slot = (deleted-alike image image′ alike slot, delete-leaves-alike image image′ alike slot)
+
+-- Which images these are: the other way round it is the same; and whatever bytes are laid over the body of a check-failed sector (`splice`: from an offset on), the
+-- image before and the image after are two of them; also of a slot's, for which the volume is refused.
+pub untrusted-either-way : (image image′ : List ℕ) → EqualButFailed image image′ → EqualButFailed image′ image
+untrusted-either-way = equal-swap
+
+pub untrusted-body : (image : List ℕ) (n : ℕ) (bytes : List ℕ) → SectorsKnown image → n < sectorCount (volumeOf image) → checkFailed (volumeOf image) image n ≡ true
+    → length bytes ≡ bodySize (volumeOf image) n → EqualButFailed image (splice (bodyOffset (volumeOf image) n) bytes image)
+untrusted-body = failed-body-any

@@ -1,6 +1,7 @@
--- The image: data addresses, and the sectors that they are in; every byte in one of them.
+-- The image: data addresses, and the sectors that they are in; images equal but for bodies that are not trusted; every byte in one sector.
 pub mod AddressLaws
 pub mod Tiling
 pub mod Sectors
 pub mod SectorLaws
+pub mod Untrusted
 pub mod ByteSectors

@@ -4,7 +4,7 @@
 use Prim.Native.Nat.{ℕ, zero, suc, _-_, _<_}
 use mathlib.Core.Path.{_≡_, refl, subst, ap, _∙_}
 use mathlib.Core.Bool.{true, false}
-use mathlib.Core.List.{List, [], _∷_, _++_, map}
+use mathlib.Core.List.{List, [], _∷_, _++_, map, flatten}
 use lib.ListN.{length, replicate}
 use native.Mathlib.Omega.{arith}
 use borrow.Author.Tests.{eqb-true}
@@ -18,11 +18,12 @@ use Rattle.standard.specs.Labels.{knownLevel, anotherLevel, formatOf, recordLen
 use Rattle.standard.specs.Slots.{isLabel, isDeleted, isUnreadable, slotRefusal, slotsFrom, hasLabel}
 use Rattle.standard.specs.Judgement.{numbersIn, legalKind, kindsFrom, clashesBelow, clashesFrom, overlap, shares, sameName, namesake, volumeRefusal, judged}
 use Rattle.standard.specs.Files.{addressesFrom, extentSize, extent, isDefective, goodAmong, goodRecords, recordsToBlock, goodBefore, dataEndAtStart, dataEndInExtent, blocksHeld, blockCount, isWrong, wrongAmong, splitsBlock, countRefusal, counted, openRefusal, anyFailed, bytesOf, blockOf, blocksFrom, fileIn, fileAt}
-use Rattle.standard.specs.Records.{answer, step, inFile, readOn, enough, readAll, join, listed, plain, salvage, Record}
+use Rattle.standard.specs.Records.{firstMet, step, inFile, plain, salvage, FileRecord}
+use Rattle.standard.specs.Listed.{readOn, enough, readAll, join, listed}
 use Rattle.standard.specs.Places.{start}
 use Rattle.standard.specs.Pieces.{look, walk, pieces, inBlock, inBlocks, ahead, number4, roleOf, lookF, lookV, lookS}
 use Rattle.standard.specs.Reading.{replyIn, reply, laidOver}
-use Rattle.standard.specs.Packing.{recordV, segment, lay, layOne, spread, layS, pack, fileOf}
+use Rattle.standard.specs.Packing.{unusedIn, layF, recordV, layOne, layV, segment, spread, layS, pack, fileOf}
 use Rattle.standard.specs.Writing.{written, imageAfter, total, parted, wrongLength, lengthsFrom, packing, writeRefusal, splice, filledTo, storeRecord, storeBlock, storeBlocks, nextDataEnd, dataEndAfter, setLabel, imageWith, outcome}
 use Rattle.standard.specs.Finding.{isNamed, foundFrom}
 use Rattle.standard.specs.Free.{inExtent, taken}
@@ -98,7 +99,7 @@ withDefect =
 abbrev defectVolume : Geometry
 defectVolume = record { L = 1; I = 8; D = 5; k = 0; P = 128; S = 1; d1 = 0; d2 = 0 }
 
-abbrev bodies : List (List ℕ)
+abbrev pub bodies : List (List ℕ)
 bodies = bytes "AAAAAAAA" ∷ bytes "BBBBBBBBBBBB" ∷ bytes "CCC" ∷ []
 
 -- What is computed of the first. It is accepted; example 9 is read back; example 10, where block 1 is lost: its sector is the tenth, ordinal 9, in the image, and
@@ -116,26 +117,26 @@ pub computed : (judged image ≡ Volume geometry)
     -- blocks move by one record, and salvage gives B, C. (docs/DECISIONS.md, 7.12)
     × (following 3 plain withDefect 1 (replicate 256 255) start ≡ told (of128 65 ++ of128 66) ∷ told (of128 67 ++ of128 68) ∷ done ∷ [])
     × (following 3 salvage (failedAt defectVolume 8 withDefect) 1 (replicate 256 255) start ≡ gapAt 0 ∷ told (of128 66 ++ of128 67) ∷ done ∷ [])
-unfolding withDefect image oneOf same every aSet isDigit digitValue numberFrom spacesOrNumber isHex hexValue hexFrom given-when inOrder orElse lowestFault ordinalAt sectorCount kAt bodySize kindOffset bodyOffset imageLength kindAt bodyAt firstByte validMark incorrectMark checkFailed indexKind indexBody slotCount slotOrdinal labelOffset labelAt vol1Rules ermapRules ermapRule7 ermapRule11 rule41 rule42 rule43 rule45 rule64 rule73 skipOne physical fiveDigits addressIn fiveRead legal rank before stepped pastLast isAddress isDataEnd ordinal knownLevel anotherLevel formatOf recordLength unusedCount rule44 rule6 rule29 rule35 rule40 rule23 rule63 rule46 spacesOrDate rule48 rule67 rule54 rule58 rule75 hdr1Rules labelFault isLabel isDeleted isUnreadable slotRefusal slotsFrom hasLabel numbersIn legalKind kindsFrom clashesBelow clashesFrom overlap shares sameName namesake volumeRefusal judged addressesFrom extentSize extent isDefective goodAmong goodRecords recordsToBlock goodBefore dataEndAtStart dataEndInExtent blocksHeld blockCount isWrong wrongAmong splitsBlock countRefusal counted openRefusal anyFailed bytesOf blockOf blocksFrom fileIn fileAt answer step inFile readOn enough readAll join listed number4 roleOf lookF lookV lookS look walk pieces inBlock inBlocks ahead replyIn reply laidOver following failedAt sectorOf recordsOf anyHit gone among
+unfolding withDefect image oneOf same every aSet isDigit digitValue numberFrom spacesOrNumber isHex hexValue hexFrom given-when inOrder orElse lowestFault ordinalAt sectorCount kAt bodySize kindOffset bodyOffset imageLength kindAt bodyAt firstByte validMark incorrectMark checkFailed indexKind indexBody slotCount slotOrdinal labelOffset labelAt vol1Rules ermapRules ermapRule7 ermapRule11 rule41 rule42 rule43 rule45 rule64 rule73 skipOne physical fiveDigits addressIn fiveRead legal rank before stepped pastLast isAddress isDataEnd ordinal knownLevel anotherLevel formatOf recordLength unusedCount rule44 rule6 rule29 rule35 rule40 rule23 rule63 rule46 spacesOrDate rule48 rule67 rule54 rule58 rule75 hdr1Rules labelFault isLabel isDeleted isUnreadable slotRefusal slotsFrom hasLabel numbersIn legalKind kindsFrom clashesBelow clashesFrom overlap shares sameName namesake volumeRefusal judged addressesFrom extentSize extent isDefective goodAmong goodRecords recordsToBlock goodBefore dataEndAtStart dataEndInExtent blocksHeld blockCount isWrong wrongAmong splitsBlock countRefusal counted openRefusal anyFailed bytesOf blockOf blocksFrom fileIn fileAt firstMet step inFile readOn enough readAll join listed number4 roleOf lookF lookV lookS look walk pieces inBlock inBlocks ahead replyIn reply laidOver following failedAt sectorOf recordsOf anyHit gone among
 computed = (refl, refl, refl, refl, omega arith, omega arith, refl, refl, refl, refl, refl)
 
 -- THE PROMISE OF SALVAGE HOLDS OF SOMETHING: its premises are met by this image and this failure
 reads-whole : ReadsWhole image 1 bodies
 reads-whole = record { readings = 4; out = output; hears = computed .1 }
 
-fails-9 : Failed geometry (among (9 ∷ [])) image (failedIn geometry (9 ∷ []) image)
+pub fails-9 : Failed geometry (among (9 ∷ [])) image (failedIn geometry (9 ∷ []) image)
 fails-9 = some-fail geometry (9 ∷ []) image (computed .4, tt)
 
 only-9 : (n : ℕ) → among (9 ∷ []) n ≡ true → 9 ≡ n
 unfolding among
 only-9 n h = eqb-true 9 n h
 
-of-blocks : OfBlocks geometry (among (9 ∷ [])) image (labelAt geometry image 1)
+pub of-blocks : OfBlocks geometry (among (9 ∷ [])) image (labelAt geometry image 1)
 unfolding OfBlocks
 of-blocks n h =
     (1, computed .5, subst (λ (x : ℕ). sectorOf geometry (recordsOf geometry image (labelAt geometry image 1) 1) x ≡ true) (only-9 n h) (computed .6))
 
-pub salvaged-instance : (rs : List Record) × (map bodyOf rs ≡ bodies) × Salvaged geometry (among (9 ∷ [])) image (failedIn geometry (9 ∷ []) image) 1 rs
+pub salvaged-instance : (rs : List FileRecord) × (map bodyOf rs ≡ bodies) × Salvaged geometry (among (9 ∷ [])) image (failedIn geometry (9 ∷ []) image) 1 rs
 unfolding SalvagePromise
 salvaged-instance = salvage-promise image (failedIn geometry (9 ∷ []) image) geometry 1 bodies (among (9 ∷ [])) (computed .0) reads-whole fails-9 of-blocks
 
@@ -173,7 +174,7 @@ demoLengths = 5 ∷ 3 ∷ []
 
 pub demo-accepted : (length demo ≡ 1548) × (judged demo ≡ Volume demoVolume) × (writeRefusal demoVolume demo 1 demoBodies demoLengths ≡ Passed)
     × (written demo 1 demoBodies demoLengths ≡ Blocks 1)
-unfolding oneOf same every aSet isDigit digitValue numberFrom spacesOrNumber isHex hexValue hexFrom padded shownBy given-when inOrder orElse lowestFault ordinalAt sectorCount kAt bodySize kindOffset bodyOffset imageLength kindAt bodyAt firstByte validMark incorrectMark checkFailed indexKind indexBody slotCount slotOrdinal labelOffset labelAt vol1Rules ermapRules ermapRule7 ermapRule11 rule41 rule42 rule43 rule45 rule64 rule73 skipOne physical fiveDigits addressIn fiveRead legal rank before stepped pastLast isAddress isDataEnd ordinal knownLevel anotherLevel formatOf recordLength unusedCount rule44 rule6 rule29 rule35 rule40 rule23 rule63 rule46 spacesOrDate rule48 rule67 rule54 rule58 rule75 hdr1Rules labelFault isLabel isDeleted isUnreadable slotRefusal slotsFrom hasLabel numbersIn legalKind kindsFrom clashesBelow clashesFrom overlap shares sameName namesake volumeRefusal judged addressesFrom extentSize extent isDefective goodAmong goodRecords recordsToBlock goodBefore dataEndAtStart dataEndInExtent blocksHeld blockCount isWrong wrongAmong splitsBlock countRefusal counted openRefusal anyFailed bytesOf blockOf blocksFrom fileIn fileAt recordV segment lay layOne spread layS pack fileOf total parted wrongLength lengthsFrom packing writeRefusal splice filledTo storeRecord storeBlock storeBlocks nextDataEnd dataEndAfter setLabel imageWith outcome
+unfolding oneOf same every aSet isDigit digitValue numberFrom spacesOrNumber isHex hexValue hexFrom padded shownBy given-when inOrder orElse lowestFault ordinalAt sectorCount kAt bodySize kindOffset bodyOffset imageLength kindAt bodyAt firstByte validMark incorrectMark checkFailed indexKind indexBody slotCount slotOrdinal labelOffset labelAt vol1Rules ermapRules ermapRule7 ermapRule11 rule41 rule42 rule43 rule45 rule64 rule73 skipOne physical fiveDigits addressIn fiveRead legal rank before stepped pastLast isAddress isDataEnd ordinal knownLevel anotherLevel formatOf recordLength unusedCount rule44 rule6 rule29 rule35 rule40 rule23 rule63 rule46 spacesOrDate rule48 rule67 rule54 rule58 rule75 hdr1Rules labelFault isLabel isDeleted isUnreadable slotRefusal slotsFrom hasLabel numbersIn legalKind kindsFrom clashesBelow clashesFrom overlap shares sameName namesake volumeRefusal judged addressesFrom extentSize extent isDefective goodAmong goodRecords recordsToBlock goodBefore dataEndAtStart dataEndInExtent blocksHeld blockCount isWrong wrongAmong splitsBlock countRefusal counted openRefusal anyFailed bytesOf blockOf blocksFrom fileIn fileAt flatten unusedIn layF recordV layOne layV segment spread layS pack fileOf total parted wrongLength lengthsFrom packing writeRefusal splice filledTo storeRecord storeBlock storeBlocks nextDataEnd dataEndAfter setLabel imageWith outcome
 demo-accepted = (refl, refl, refl, refl)
 
 -- THE PROMISES OF WRITING SAY SOMETHING: the two records are read back

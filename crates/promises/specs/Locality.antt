@@ -10,7 +10,7 @@ use Rattle.standard.specs.Layout.{labelAt}
 use Rattle.standard.specs.Slots.{hasLabel}
 use Rattle.standard.specs.Judgement.{judged}
 use Rattle.standard.specs.Records.{Mode}
-use Rattle.standard.specs.Files.{extent, goodRecords, blockCount, countRefusal, counted, openRefusal, fileIn, refusal17, refusal18}
+use Rattle.standard.specs.Files.{extent, goodRecords, blockCount, countRefusal, countIn, counted, openRefusal, fileIn, refusal17, refusal18}
 use Rattle.standard.specs.Reading.{reply}
 use Rattle.standard.specs.Writing.{writeRefusal}
 use Rattle.standard.specs.declared.Geometry.{Geometry}
@@ -24,13 +24,13 @@ use Rattle.promises.specs.Images.Sectors.{sectorAt, AgreeOn, inIndex, se
 use Rattle.promises.specs.Volumes.AcceptedLaws.{has-slot}
 use Rattle.promises.specs.Volumes.VolumeNumbers.{Numbers, numbers-of}
 use Rattle.promises.specs.Volumes.IndexLaws.{index-label, index-has, index-judged}
-use Rattle.promises.specs.Extents.ExtentReads.{every-sector, SameSector, same-wrongs, same-held, same-count, same-splits, same-good-records, same-file}
+use Rattle.promises.specs.Extents.ExtentReads.{every-sector, AlikeRecord, same-alike, alike-wrongs, same-held, same-count, same-splits, alike-good-records, alike-file}
 
--- the same file in a slot of two images
+-- the same file in a slot of two images: its label, and the sectors of its extent, but for the bodies of check-failed ones
 pub record SameFile (g : Geometry) (image image′ : List ℕ) (slot : ℕ) : Type 0 where
   pub has : hasLabel g image slot ≡ hasLabel g image′ slot
   pub label : hasLabel g image slot ≡ true → labelAt g image slot ≡ labelAt g image′ slot
-  pub sectors : hasLabel g image slot ≡ true → Every (SameSector g image image′) (extent g (labelAt g image slot))
+  pub sectors : hasLabel g image slot ≡ true → Every (AlikeRecord g image image′) (extent g (labelAt g image slot))
 
 -- with no label in the slot, 13 is all
 open-13 : (g : Geometry) (image : List ℕ) (slot : ℕ) → hasLabel g image slot ≡ false → openRefusal g image slot ≡ Stopped (refuse 13 0)
@@ -41,7 +41,7 @@ count-13 : (g : Geometry) (image : List ℕ) (slot : ℕ) → hasLabel g image s
 unfolding countRefusal inOrder given-when
 count-13 g image slot h = rw h
 
-write-13 : (g : Geometry) (image : List ℕ) (slot : ℕ) (bodies lengths : List ℕ) → hasLabel g image slot ≡ false
+pub write-13 : (g : Geometry) (image : List ℕ) (slot : ℕ) (bodies lengths : List ℕ) → hasLabel g image slot ≡ false
     → writeRefusal g image slot bodies lengths ≡ Stopped (refuse 13 0)
 unfolding writeRefusal inOrder given-when
 write-13 g image slot bodies lengths h = rw h
@@ -52,13 +52,13 @@ module _ (g : Geometry) (image image′ : List ℕ) (slot : ℕ) (p : 0 < g .P) 
 
   module _ (l : hasLabel g image slot ≡ true) where
     good-same : goodRecords g image (labelAt g image slot) ≡ goodRecords g image′ (labelAt g image slot)
-    good-same = same-good-records g image image′ p (labelAt g image slot) (same .sectors l)
+    good-same = alike-good-records g image image′ p (labelAt g image slot) (same .sectors l)
 
     wrongs-same : refusal17 g image (labelAt g image slot) ≡ refusal17 g image′ (labelAt g image slot)
-    wrongs-same = same-wrongs g image image′ p (extent g (labelAt g image slot)) (same .sectors l)
+    wrongs-same = alike-wrongs g image image′ p (extent g (labelAt g image slot)) (same .sectors l)
 
     pub file-same : fileIn g image (labelAt g image slot) ≡ fileIn g image′ (labelAt g image′ slot)
-    file-same = same-file g image image′ p (labelAt g image slot) (same .sectors l) ∙ ap (fileIn g image′) (same .label l)
+    file-same = alike-file g image image′ p (labelAt g image slot) (same .sectors l) ∙ ap (fileIn g image′) (same .label l)
 
     count-same : blockCount g image (labelAt g image slot) ≡ blockCount g image′ (labelAt g image′ slot)
     count-same = same-count g image image′ (labelAt g image slot) good-same ∙ ap (blockCount g image′) (same .label l)
@@ -82,6 +82,12 @@ module _ (g : Geometry) (image image′ : List ℕ) (slot : ℕ) (p : 0 < g .P) 
   pub open-same : openRefusal g image slot ≡ openRefusal g image′ slot
   open-same = by-test (hasLabel g image slot) open-there (λ e. open-13 g image slot e ∙ sym (open-13 g image′ slot (absent e)))
 
+  pub count-in-same : countIn g image slot ≡ countIn g image′ slot
+  count-in-same =
+      by-test (hasLabel g image slot)
+      (λ (e : hasLabel g image slot ≡ true). rw (count-there e, count-same e))
+      (λ (e : hasLabel g image slot ≡ false). rw (count-13 g image slot e, count-13 g image′ slot (absent e)))
+
   pub write-same : (bodies lengths : List ℕ) → writeRefusal g image slot bodies lengths ≡ writeRefusal g image′ slot bodies lengths
   write-same bodies lengths =
       by-test (hasLabel g image slot) (λ e. write-there e bodies lengths)
@@ -99,11 +105,7 @@ module _ (g : Geometry) (image image′ : List ℕ) (slot : ℕ) (p : 0 < g .P) 
 
     pub counted-same : counted image slot ≡ counted image′ slot
     unfolding counted
-    counted-same =
-        rw (j, j′)
-        (by-test (hasLabel g image slot)
-        (λ (e : hasLabel g image slot ≡ true). rw (count-there e, count-same e))
-        (λ (e : hasLabel g image slot ≡ false). rw (count-13 g image slot e, count-13 g image′ slot (absent e))))
+    counted-same = rw (j, j′) count-in-same
 
 -- the index cylinder and the extent of the label in a slot
 unfoldable pub SameForFile : Geometry → List ℕ → List ℕ → ℕ → Type 0
@@ -115,7 +117,9 @@ same-for-file g image image′ slot numbers same =
     record {
       has = index-has g image image′ numbers (same .0) slot;
       label = λ l. index-label g image image′ numbers (same .0) slot (has-slot g image slot l .1);
-      sectors = λ l. every-sector (λ n. sectorAt g image n ≡ sectorAt g image′ n) g (extent g (labelAt g image slot)) (same .1);
+      sectors = λ l.
+          same-alike g image image′ (extent g (labelAt g image slot))
+          (every-sector (λ n. sectorAt g image n ≡ sectorAt g image′ n) g (extent g (labelAt g image slot)) (same .1));
     }
 
 -- LOCALITY

@@ -9,4 +9,5 @@ pub mod Following
 pub mod FollowingLaws
 pub mod WholeLaws
 pub mod AnyPlace
+pub mod GoingOn
 pub mod Runs

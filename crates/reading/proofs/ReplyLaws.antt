@@ -1,8 +1,8 @@
 -- From what is met to the reply, and the exits of a reading.
 -- Assumes nothing.
-use Prim.Native.Nat.{ℕ, zero, suc, _-_, _<_, _≤_}
+use Prim.Native.Nat.{ℕ, _-_, _<_, _≤_}
 use mathlib.Core.Path.{_≡_, refl, sym, ap, subst, _∙_}
-use mathlib.Core.Bool.{Bool, true, false, _&&_}
+use mathlib.Core.Bool.{Bool, true, false, cond, _&&_}
 use mathlib.Core.List.{List, []}
 use lib.ListN.{length}
 use lib.Seq.{paste}
@@ -14,7 +14,7 @@ use Rattle.standard.specs.Labels.{Format}
 use Rattle.standard.specs.Judgement.{judged}
 use Rattle.standard.specs.Files.{openRefusal, fileIn}
 use Rattle.standard.specs.Pieces.{ahead}
-use Rattle.standard.specs.Records.{Mode, File, fresh, marked, Met, took, gapped, ended, refused, answer, entering, aligned, inFile, step}
+use Rattle.standard.specs.Records.{Mode, File, fresh, marked, Met, took, gapped, ended, refused, firstMet, entering, aligned, inFile, step}
 use Rattle.standard.specs.Reading.{Reply, unanswered, replied, replyIn, reply, readAnswer, laidOver, outputAfter}
 use Rattle.standard.specs.declared.Geometry.{Geometry}
 use Rattle.standard.specs.declared.Place.{Place}
@@ -160,9 +160,7 @@ pub enters-fresh : (s mark : Bool) (form : Form) (o : ℕ) → ((s && mark) && e
 enters-fresh false mark form o h = refl
 enters-fresh true mark Fixed o h = refl
 enters-fresh true mark Variable o h = refl
-enters-fresh true false Spanned o h = refl
-enters-fresh true true Spanned zero h = never (cc)
-enters-fresh true true Spanned (suc o) h = refl
+enters-fresh true mark Spanned o h = ap (λ (counts : Bool). cond counts marked fresh) (sym h)
 
 pub enters-fixed : (s mark : Bool) (form : Form) (o : ℕ) → form ≡ Fixed → fresh ≡ entering (modeOf s) (formatFor form) o mark
 enters-fixed true mark form o e = rw e
@@ -226,7 +224,7 @@ pub step-from : (image : List ℕ) (f : FileNumbers) (s : Bool) (w : Walk) (form
 unfolding step
 step-from image f s w format e h =
     let file = fileOf image f in
-    ap (answer (modeOf s) (file .params) (ahead (file .params) (file .blocks) (w .place .block) (w .place .offset)))
+    ap (firstMet (modeOf s) (file .params) (ahead (file .params) (file .blocks) (w .place .block) (w .place .offset)))
     (h ∙ ap (λ (k : Format). entering (modeOf s) k (w .place .offset) (w .place .mark)) e)
 
 pub format-is : (image : List ℕ) (f : FileNumbers) → Opened image f → formatFor (f .form) ≡ fileOf image f .params .format

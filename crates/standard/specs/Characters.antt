@@ -1,4 +1,7 @@
 -- Characters, and the numbers that labels spell with them.
+-- Every definition here and in the other files takes any list and any number, so it is said once what the library's functions give outside their range:
+-- `getD xs i d` is d where i is behind the end; `take n xs` and `drop n xs` are all of xs and [] where n is above its length; `a - b` is 0 where a is below b;
+-- `a / 0` is 0, and `a % 0` is a.
 -- Assumes nothing.
 use Prim.Native.Nat.{ℕ, zero, suc, _+_, _-_, _*_, _/_, _%_}
 use Prim.Native.Char.{Char, code}
@@ -33,9 +36,9 @@ unfoldable pub every : (ℕ → Bool) → List ℕ → Bool
 every test [] = true
 every test (x ∷ xs) = test x && every test xs
 
--- "positions" of a label count from 1: the bytes from position `first` to position `last`; the byte at a position
+-- "positions" of a label count from 1: the bytes from one position to another; the byte at a position
 abbrev pub field : List ℕ → ℕ → ℕ → List ℕ
-field label first last = take (suc last - first) (drop (first - 1) label)
+field label from to = take (suc to - from) (drop (from - 1) label)
 
 abbrev pub at : List ℕ → ℕ → ℕ
 at label position = getD label (position - 1) 0

@@ -4,7 +4,7 @@ use Prim.Native.Nat.{ℕ, _-_, _^_}
 use Prim.Native.String.{String}
 use mathlib.Core.Path.{_≡_, refl}
 use mathlib.Core.Bool.{Bool, true, false}
-use mathlib.Core.List.{List, [], _∷_, _++_, map}
+use mathlib.Core.List.{List, [], _∷_, _++_, map, flatten}
 use lib.ListN.{length, take, replicate}
 use Rattle.standard.specs.Characters.{bytes, byte, oneOf, same, every, aSet, isDigit, digitValue, numberFrom, spacesOrNumber, padded, shownBy, shown}
 use Rattle.standard.specs.Addresses.{addressOf, firstAddress, fiveDigits, addressIn, legal, rank, before, pastLast, isAddress, isDataEnd, fiveBytes}
@@ -16,12 +16,15 @@ use Rattle.standard.specs.Creating.{proposed, proposedRules, proposalFau
 use Rattle.standard.specs.declared.Run.the-variants.{NoRun, RunAt}
 use Rattle.standard.specs.Judgement.{overlap}
 use Rattle.standard.specs.Pieces.{Block, lostBlock, held, number4, roleOf, lookF, lookV, lookS, look, walk, pieces, inBlock, inBlocks, ahead}
-use Rattle.standard.specs.Records.{plain, salvage, File, Record, took, ended, refused, refuse20, refuse21, refuse22, answer, step, rec, gap, end, no, enough, readOn, readAll}
-use Rattle.standard.specs.Packing.{Packing, segment, spread, layS, pack}
+use Rattle.standard.specs.Records.{plain, salvage, File, FileRecord, took, ended, refused, gapped, firstMet, step}
+use Rattle.standard.specs.Places.{nextBlock, afterGap}
+use Rattle.standard.specs.Listed.{rec, gap, end, no, enough, readOn, readAll}
+use Rattle.standard.specs.Packing.{Packing, unusedIn, layF, recordV, layOne, layV, segment, spread, layS, pack}
 use Rattle.standard.specs.Writing.{splice, unusedField}
 use Rattle.standard.specs.Rules.{lowestFault}
 use Rattle.standard.specs.declared.Geometry.{Geometry}
 use Rattle.standard.specs.declared.Place.{Place}
+use Rattle.standard.specs.declared.Refusal.{Refusal}
 
 -- files of V with R = 8, of S with some R, of F with some R; a block of a text and so many bytes of fill behind it
 abbrev ofV : Bool → List Block → File
@@ -39,8 +42,12 @@ text s fill = held (bytes s ++ replicate fill 0)
 abbrev place : ℕ → ℕ → Bool → Place
 place b o mark = record { block = b; offset = o; mark = mark }
 
-abbrev body : String → ℕ → ℕ → Record
-body s first last = record { body = bytes s; firstBlock = first; lastBlock = last }
+abbrev body : String → ℕ → ℕ → FileRecord
+body s from to = record { body = bytes s; firstBlock = from; lastBlock = to }
+
+-- a refusal by its number and places, as the paper's table has them
+abbrev numbered : ℕ → ℕ → ℕ → Refusal
+numbered number first second = record { number = number; first = first; second = second; third = 0 }
 
 -- V, two records to a block
 abbrev twoV : Block
@@ -52,19 +59,22 @@ pub edges-V :
     -- "A place at the end of a block's content goes on in the next block"
     × (step plain (ofV true (twoV ∷ text "0006AB" 0 ∷ [])) (place 0 11 false) ≡ took (body "AB" 1 1) (place 1 6 false))
     -- "but any place of a lost block, its end included, meets that block."
-    × (step plain (ofV true (lostBlock 11 ∷ text "0006AB" 0 ∷ [])) (place 0 11 false) ≡ refused (refuse20 0))
+    × (step plain (ofV true (lostBlock 11 ∷ text "0006AB" 0 ∷ [])) (place 0 11 false) ≡ refused (numbered 20 0 0))
     -- "if unblocked, at offsets above 0 only fill"
-    × (step plain (ofV false (twoV ∷ [])) (place 0 6 false) ≡ refused (refuse21 0 6))
+    × (step plain (ofV false (twoV ∷ [])) (place 0 6 false) ≡ refused (numbered 21 0 6))
     -- "four digits, from 4 to R"; "inside the content"
-    × (step plain (ofV true (text "0009ABCDE" 0 ∷ [])) (place 0 0 false) ≡ refused (refuse21 0 0))
-    × (step plain (ofV true (text "0008ABC" 0 ∷ [])) (place 0 0 false) ≡ refused (refuse21 0 0))
+    × (step plain (ofV true (text "0009ABCDE" 0 ∷ [])) (place 0 0 false) ≡ refused (numbered 21 0 0))
+    × (step plain (ofV true (text "0008ABC" 0 ∷ [])) (place 0 0 false) ≡ refused (numbered 21 0 0))
     -- "with fewer than 4 bytes left [..] the rest must be fill"
-    × (step plain (ofV true (text "0006AB0" 0 ∷ [])) (place 0 6 false) ≡ refused (refuse21 0 6))
+    × (step plain (ofV true (text "0006AB0" 0 ∷ [])) (place 0 6 false) ≡ refused (numbered 21 0 6))
     × (step plain (ofV true (text "0006AB" 3 ∷ [])) (place 0 6 false) ≡ ended)
+    -- "or at a byte 00"
+    × (step plain (ofV true (held (bytes "0006AB" ++ 0 ∷ bytes "0005C") ∷ [])) (place 0 6 false) ≡ refused (numbered 21 0 6))
+    × (step plain (ofV true (text "0006AB" 9 ∷ [])) (place 0 6 false) ≡ ended)
     -- "block = count only with offset 0, and answers End"
     × (step plain (ofV true (twoV ∷ [])) (place 1 0 false) ≡ ended)
-unfolding isDigit digitValue number4 lookV look walk pieces inBlock inBlocks ahead answer step
-edges-V = (refl, refl, refl, refl, refl, refl, refl, refl, refl)
+unfolding isDigit digitValue number4 lookV look walk pieces inBlock inBlocks ahead firstMet step
+edges-V = (refl, refl, refl, refl, refl, refl, refl, refl, refl, refl, refl)
 
 -- S, a record over blocks 0 to 3, one of them fill alone
 abbrev longS : List Block
@@ -74,46 +84,89 @@ pub edges-S :
     -- "A block of fill alone holds nothing."
     (readAll plain (ofS 0 longS) ≡ rec (body "ABCDEF" 0 3) ∷ rec (body "" 3 3) ∷ end ∷ [])
     -- "A body over R (unless 0000) breaks the rule at the segment where it first exceeds."
-    × (readAll plain (ofS 3 longS) ≡ no (refuse21 2 0) ∷ [])
+    × (readAll plain (ofS 3 longS) ≡ no (numbered 21 2 0) ∷ [])
     -- "After 1 or 2 the rest of the block is fill": 21 names the rest; a body over R is named first, at its segment
-    × (readAll plain (ofS 0 (text "10007AB00005" 0 ∷ [])) ≡ no (refuse21 0 7) ∷ [])
-    × (readAll plain (ofS 1 (text "10007AB00005" 0 ∷ [])) ≡ no (refuse21 0 0) ∷ [])
+    × (readAll plain (ofS 0 (text "10007AB00005" 0 ∷ [])) ≡ no (numbered 21 0 7) ∷ [])
+    × (readAll plain (ofS 1 (text "10007AB00005" 0 ∷ [])) ≡ no (numbered 21 0 0) ∷ [])
     -- "the next segment must be 2 or 3; otherwise it must be 0 or 1"
-    × (readAll plain (ofS 0 (text "10007AB" 0 ∷ text "10007CD" 0 ∷ [])) ≡ no (refuse21 1 0) ∷ [])
-    × (readAll plain (ofS 0 (text "30007AB" 0 ∷ [])) ≡ no (refuse21 0 0) ∷ [])
+    × (readAll plain (ofS 0 (text "10007AB" 0 ∷ text "10007CD" 0 ∷ [])) ≡ no (numbered 21 1 0) ∷ [])
+    × (readAll plain (ofS 0 (text "30007AB" 0 ∷ [])) ≡ no (numbered 21 0 0) ∷ [])
+    -- "`0`-`3`, four digits from 5, inside the content"
+    × (readAll plain (ofS 0 (text "40007AB" 0 ∷ [])) ≡ no (numbered 21 0 0) ∷ [])
+    × (readAll plain (ofS 0 (text "00004" 2 ∷ [])) ≡ no (numbered 21 0 0) ∷ [])
+    × (readAll plain (ofS 0 (text "00008AB" 0 ∷ [])) ≡ no (numbered 21 0 0) ∷ [])
     -- 22 "file ends after a 1 or 2 not dropped", in salvage too
-    × (readAll plain (ofS 0 (text "10007AB" 0 ∷ [])) ≡ no refuse22 ∷ [])
-    × (readAll salvage (ofS 0 (text "10007AB" 0 ∷ [])) ≡ no refuse22 ∷ [])
-unfolding isDigit digitValue number4 roleOf lookS look walk pieces inBlock inBlocks ahead answer step enough readOn readAll
-edges-S = (refl, refl, refl, refl, refl, refl, refl, refl)
+    × (readAll plain (ofS 0 (text "10007AB" 0 ∷ [])) ≡ no (numbered 22 0 0) ∷ [])
+    × (readAll salvage (ofS 0 (text "10007AB" 0 ∷ [])) ≡ no (numbered 22 0 0) ∷ [])
+unfolding isDigit digitValue number4 roleOf lookS look walk pieces inBlock inBlocks ahead firstMet step enough readOn readAll
+edges-S = (refl, refl, refl, refl, refl, refl, refl, refl, refl, refl, refl)
 
 pub edges-gap :
     -- "a 2 is dropped, unmeasured by R, and the mark stays; a 3 is dropped likewise and reading goes on without it. A block of fill keeps it."
     (readAll salvage (ofS 1 (lostBlock 11 ∷ text "" 10 ∷ text "20007AB" 0 ∷ text "30007CD00006E" 0 ∷ []))
     ≡ gap 0 ∷ rec (body "E" 3 3) ∷ end ∷ [])
     -- "a 3 is dropped [..] and reading goes on without [the mark]": a second 3 breaks the rule
-    × (readAll salvage (ofS 0 (lostBlock 11 ∷ text "30007AB30007CD" 0 ∷ [])) ≡ gap 0 ∷ no (refuse21 1 7) ∷ [])
+    × (readAll salvage (ofS 0 (lostBlock 11 ∷ text "30007AB30007CD" 0 ∷ [])) ≡ gap 0 ∷ no (numbered 21 1 7) ∷ [])
     -- a dropped 2 still has fill behind it; after it "0 to 3 may come first" again, and the file may end
-    × (readAll salvage (ofS 0 (lostBlock 11 ∷ text "20007AB0" 0 ∷ [])) ≡ gap 0 ∷ no (refuse21 1 7) ∷ [])
+    × (readAll salvage (ofS 0 (lostBlock 11 ∷ text "20007AB0" 0 ∷ [])) ≡ gap 0 ∷ no (numbered 21 1 7) ∷ [])
     × (readAll salvage (ofS 0 (lostBlock 11 ∷ text "20007AB" 0 ∷ text "00006C" 0 ∷ [])) ≡ gap 0 ∷ rec (body "C" 2 2) ∷ end ∷ [])
     × (readAll salvage (ofS 0 (lostBlock 11 ∷ lostBlock 11 ∷ text "20007AB" 0 ∷ [])) ≡ gap 0 ∷ gap 1 ∷ end ∷ [])
     -- "Meeting it, also midway in a spanned record, gives one gap"
     × (readAll salvage (ofS 0 (text "10007AB" 0 ∷ lostBlock 7 ∷ text "30007CD" 0 ∷ [])) ≡ gap 1 ∷ end ∷ [])
     -- "In plain reading, at offsets above 0, and in F and V, the mark counts as absent."
     × (step salvage (ofS 0 (lostBlock 11 ∷ text "30007AB00005" 0 ∷ [])) (place 1 0 true) ≡ took (body "" 1 1) (place 1 12 false))
-    × (step salvage (ofS 0 (lostBlock 11 ∷ text "30007AB00005" 0 ∷ [])) (place 1 0 false) ≡ refused (refuse21 1 0))
-    × (step plain (ofS 0 (lostBlock 11 ∷ text "30007AB00005" 0 ∷ [])) (place 1 0 true) ≡ refused (refuse21 1 0))
-    × (step salvage (ofS 0 (text "00006A" 0 ∷ text "30007AB" 0 ∷ [])) (place 0 6 true) ≡ refused (refuse21 1 0))
-unfolding isDigit digitValue number4 roleOf lookS look walk pieces inBlock inBlocks ahead answer step enough readOn readAll
-edges-gap = (refl, refl, refl, refl, refl, refl, refl, refl, refl, refl)
+    × (step salvage (ofS 0 (lostBlock 11 ∷ text "30007AB00005" 0 ∷ [])) (place 1 0 false) ≡ refused (numbered 21 1 0))
+    × (step plain (ofS 0 (lostBlock 11 ∷ text "30007AB00005" 0 ∷ [])) (place 1 0 true) ≡ refused (numbered 21 1 0))
+unfolding isDigit digitValue number4 roleOf lookS look walk pieces inBlock inBlocks ahead firstMet step enough readOn readAll
+edges-gap = (refl, refl, refl, refl, refl, refl, refl, refl, refl)
+
+-- the moves of a place: "goes on in the next block"; "at offsets above 0 .. the mark counts as absent"; "A block of fill keeps it"; behind the last block the
+-- number stays. What is read at a place that goes on is what is read where it goes
+abbrev ended6 : File
+ended6 = ofS 0 (text "00006A" 0 ∷ text "30007AB" 0 ∷ [])
+
+pub edges-moves :
+    (nextBlock 2 (place 0 6 false) ≡ place 1 0 false)
+    × (nextBlock 2 (place 0 6 true) ≡ place 1 0 false)
+    × (nextBlock 2 (place 0 0 true) ≡ place 1 0 true)
+    × (nextBlock 2 (place 2 0 true) ≡ place 2 0 true)
+    × (step salvage ended6 (place 0 6 true) ≡ refused (numbered 21 1 0))
+    × (step salvage ended6 (nextBlock 2 (place 0 6 true)) ≡ refused (numbered 21 1 0))
+    × (step salvage ended6 (afterGap (place 1 0 false)) ≡ ended)
+    × (step salvage (ofS 0 (lostBlock 6 ∷ [])) (place 0 6 true) ≡ gapped 0 (place 1 0 true))
+unfolding isDigit digitValue number4 roleOf lookS look walk pieces inBlock inBlocks ahead nextBlock firstMet step
+edges-moves = (refl, refl, refl, refl, refl, refl, refl, refl)
 
 pub edges-F :
     -- F has no fill: a block of 00 holds records of 00
     (readAll plain (ofF 2 (text "AB" 2 ∷ text "CD" 0 ∷ []))
     ≡ rec (body "AB" 0 0) ∷ rec (record { body = 0 ∷ 0 ∷ []; firstBlock = 0; lastBlock = 0 }) ∷ rec (body "CD" 1 1) ∷ end ∷ [])
     × (readAll salvage (ofF 2 (text "AB" 0 ∷ lostBlock 2 ∷ text "CD" 0 ∷ [])) ≡ rec (body "AB" 0 0) ∷ gap 1 ∷ rec (body "CD" 2 2) ∷ end ∷ [])
-unfolding lookF look walk pieces inBlock inBlocks ahead answer step enough readOn readAll
+unfolding lookF look walk pieces inBlock inBlocks ahead firstMet step enough readOn readAll
 edges-F = (refl, refl)
+
+-- "F: B/R to a block", the last with what is left; B = 6, R = 2
+abbrev packF : List (List ℕ) → Packing
+packF = pack (record { format = fixed; R = 2; blocked = true }) 6
+
+pub edges-pack-F :
+    (packF (bytes "AA" ∷ bytes "BB" ∷ bytes "CC" ∷ bytes "DD" ∷ []) ≡ record { contents = bytes "AABBCC" ∷ bytes "DD" ∷ []; U = 4 })
+    × (packF (bytes "AA" ∷ bytes "BB" ∷ bytes "CC" ∷ []) ≡ record { contents = bytes "AABBCC" ∷ []; U = 0 })
+    × (packF [] ≡ record { contents = []; U = 0 })
+unfolding flatten unusedIn layF pack
+edges-pack-F = (refl, refl, refl)
+
+-- "V unblocked: one to a block; blocked: into the current block if it fits, else the next"; "Unblocked files get U = 0"; B = 12
+abbrev packV : Bool → List (List ℕ) → Packing
+packV blocked = pack (record { format = variable; R = 12; blocked = blocked }) 12
+
+pub edges-pack-V :
+    (packV true (bytes "AA" ∷ bytes "BB" ∷ []) ≡ record { contents = bytes "0006AA0006BB" ∷ []; U = 0 })
+    × (packV true (bytes "AA" ∷ bytes "BBB" ∷ []) ≡ record { contents = (bytes "0006AA" ++ replicate 6 0) ∷ bytes "0007BBB" ∷ []; U = 5 })
+    × (packV false (bytes "AA" ∷ bytes "BB" ∷ []) ≡ record { contents = (bytes "0006AA" ++ replicate 6 0) ∷ (bytes "0006BB" ++ replicate 6 0) ∷ []; U = 0 })
+    × (packV true [] ≡ record { contents = []; U = 0 })
+unfolding padded recordV unusedIn layOne layV pack
+edges-pack-V = (refl, refl, refl, refl)
 
 -- S, B = 10, R = 0000: "a segment starts where 6 bytes are left (5 for an empty record)"
 abbrev packS : List (List ℕ) → Packing
@@ -179,6 +232,11 @@ pub edges-rules :
     × (faultOf "X" "#" "00256" "0100" "     " "B" ≡ 40)
     -- "Another level has only 1-4, 29-33, 35-39 and 44 judged."
     × (faultOf "X" "3" "?????" "    " "     " "?" ≡ 0)
+    -- "above P a multiple of P; level space at most P"; "level space R = B"
+    × (faultOf "F" "2" "00257" "    " "     " " " ≡ 23)
+    × (faultOf "F" "1" "00256" "    " "     " " " ≡ 0)
+    × (faultOf " " " " "00256" "    " "     " " " ≡ 23)
+    × (faultOf " " " " "00128" "0064" "     " " " ≡ 54)
     -- "at most D·P"; "V and S at most 9,999 (house)", with D = 26 and P = 1024
     × (faultOf "V" "2" "01024" "0100" "     " "B" ≡ 0)
     × (faultOf "V" "2" "01152" "0100" "     " "B" ≡ 23)
@@ -186,7 +244,7 @@ pub edges-rules :
     × (labelFault large (label "V" "2" "10240" "0100" "     " "B") ≡ 23)
     × (labelFault large (label "F" "2" "10240" "    " "     " " ") ≡ 0)
 unfolding oneOf same every aSet isDigit digitValue numberFrom spacesOrNumber lowestFault fiveDigits addressIn legal rank before pastLast isAddress isDataEnd knownLevel anotherLevel recordLength unusedCount rule44 rule6 rule29 rule35 rule40 rule23 rule63 rule41 rule42 rule43 rule45 rule46 spacesOrDate rule48 rule67 rule54 rule58 rule64 rule73 rule75 hdr1Rules labelFault
-edges-rules = (refl, refl, refl, refl, refl, refl, refl, refl, refl, refl, refl, refl, refl, refl, refl, refl)
+edges-rules = (refl, refl, refl, refl, refl, refl, refl, refl, refl, refl, refl, refl, refl, refl, refl, refl, refl, refl, refl, refl)
 
 pub edges-fields :
     -- "Then U (spaces for 0)"

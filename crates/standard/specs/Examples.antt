@@ -10,9 +10,10 @@ use Rattle.standard.specs.Characters.{bytes, byte, isDigit, digitValue, 
 use Rattle.standard.specs.Defects.{skipOne, physical}
 use Rattle.standard.specs.Addresses.{addressIn, stepped}
 use Rattle.standard.specs.Pieces.{number4, roleOf, lookV, lookS, look, walk, pieces, inBlock, inBlocks, ahead}
-use Rattle.standard.specs.Records.{salvage, Item, rec, gap, end, answer, step, enough, readOn, readAll}
+use Rattle.standard.specs.Records.{salvage, firstMet, step}
+use Rattle.standard.specs.Listed.{Item, rec, gap, end, enough, readOn, readAll}
 use Rattle.standard.specs.Files.{addressesFrom}
-use Rattle.standard.specs.Packing.{Packing, recordV, segment, lay, layOne, spread, layS, pack, fileOf}
+use Rattle.standard.specs.Packing.{Packing, unusedIn, recordV, layV, segment, spread, layS, pack, fileOf}
 use Rattle.standard.specs.Writing.{nextDataEnd}
 use Rattle.standard.specs.Damage.{damage, damaged}
 use Rattle.standard.specs.Labels.{variable, spanned, Params}
@@ -54,7 +55,7 @@ abbrev salvaged : Packing → ℕ → List Item
 salvaged w lost = readAll salvage (damaged (λ b. eqb b lost) (fileOf s20 (w .contents)))
 
 abbrev recordIn : List ℕ → ℕ → ℕ → Item
-recordIn body first last = rec (record { body = body; firstBlock = first; lastBlock = last })
+recordIn body from to = rec (record { body = body; firstBlock = from; lastBlock = to })
 
 pub examples :
     -- "1. D=8, S=2: 01008 steps to 01101."
@@ -84,5 +85,5 @@ pub examples :
     × (salvaged written9 0 ≡ gap 0 ∷ recordIn (bytes "CCC") 2 2 ∷ end ∷ [])
     -- "12. S, B=20, bodies 20, 20, middle block of three lost: one gap only."
     × ((length (written12 .contents) ≡ 3) × (salvaged written12 1 ≡ gap 1 ∷ end ∷ []))
-unfolding isDigit digitValue padded number4 roleOf lookV lookS addressIn stepped skipOne physical addressesFrom nextDataEnd recordV segment lay layOne spread layS pack fileOf damage damaged look walk pieces inBlock inBlocks ahead answer step enough readOn readAll
+unfolding isDigit digitValue padded number4 roleOf lookV lookS addressIn stepped skipOne physical addressesFrom nextDataEnd unusedIn recordV layV segment spread layS pack fileOf damage damaged look walk pieces inBlock inBlocks ahead firstMet step enough readOn readAll
 examples = (refl, refl, refl, refl, refl, refl, refl, refl, refl, refl, refl, (refl, refl))

@@ -1,4 +1,8 @@
 -- Section "HDR1 (table 3)", the fields of a label and their rules. A label is its 128 bytes.
+-- First what the fields say; then the rules, `rule23` that of the field which begins at position 23; last the table `hdr1Rules`, in the order of positions. The
+-- rules stand in another order than the paper's, since what a rule reads of other fields has to stand before it:
+--   the field from position    6  23  29  35  40  41  42  43  44  45  46  48  54  58  63  64  67  73  75
+--   its rule here is number    2   6   3   4   5   8   9  10   1  11  12  13  15  16   7  17  14  18  19
 -- Assumes nothing.
 use Prim.Native.Nat.{ℕ, _*_, _%_}
 use mathlib.Core.Bool.{Bool, cond, not, _&&_, _||_}
@@ -74,16 +78,15 @@ isBlocked h = eqb (at h 63) (byte "B")
 abbrev pub dataEndOf : List ℕ → Address
 dataEndOf h = addressIn (field h 75 79)
 
--- The rules, in the order of the document but for what a rule reads of other fields, which stands before it: 44 first of all, 23 behind 40, 63 before 54 and
--- 58. A field is at fault where its rule does not hold.
+-- The rules. A field is at fault where its rule does not hold.
 
 -- a part of a rule that applies only where something is so
 abbrev pub if-so : Bool → Bool → Bool
 if-so test part = not test || part
 
 -- "A part of a rule that reads another field is not applied while that field is itself at fault."
-abbrev pub reading : Bool → Bool → Bool
-reading fieldHolds part = not fieldHolds || part
+abbrev pub unless-at-fault : Bool → Bool → Bool
+unless-at-fault fieldHolds part = not fieldHolds || part
 
 -- "space, 1, 2 or another a-character": all of them are a-characters
 unfoldable pub rule44 : List ℕ → Bool
@@ -99,7 +102,7 @@ rule29 g h = isAddress g (field h 29 33)
 
 -- "35-39 end, not before start."
 unfoldable pub rule35 : Geometry → List ℕ → Bool
-rule35 g h = isAddress g (field h 35 39) && reading (rule29 g h) (not (before g (endOf h) (startOf h)))
+rule35 g h = isAddress g (field h 35 39) && unless-at-fault (rule29 g h) (not (before g (endOf h) (startOf h)))
 
 -- "40 space or F (fixed), V, S; levels space and 1 fixed only."
 unfoldable pub rule40 : List ℕ → Bool
@@ -109,19 +112,19 @@ rule40 h = oneOf (bytes " FVS") (at h 40) && if-so (levelSpace h || levelOne h) 
 unfoldable pub rule23 : Geometry → List ℕ → Bool
 rule23 g h =
     digits (field h 23 27)
-    && reading (rule40 h) (if-so (isFixed h) (leb 1 (blockLength h)))
-    && reading (rule40 h) (if-so (isVariable h) (leb 4 (blockLength h)))
-    && reading (rule40 h) (if-so (isSpanned h) (leb 5 (blockLength h)))
+    && unless-at-fault (rule40 h) (if-so (isFixed h) (leb 1 (blockLength h)))
+    && unless-at-fault (rule40 h) (if-so (isVariable h) (leb 4 (blockLength h)))
+    && unless-at-fault (rule40 h) (if-so (isSpanned h) (leb 5 (blockLength h)))
     && leb (blockLength h) (g .D * g .P)
     && if-so (ltb (g .P) (blockLength h)) (eqb (blockLength h % g .P) 0)
     && if-so (levelSpace h) (leb (blockLength h) (g .P))
-    && reading (rule40 h) (if-so (isVariable h || isSpanned h) (leb (blockLength h) 9999))
+    && unless-at-fault (rule40 h) (if-so (isVariable h || isSpanned h) (leb (blockLength h) 9999))
 
 -- "63 space, or B for blocked; S needs B; level space needs space."
 unfoldable pub rule63 : List ℕ → Bool
 rule63 h =
     oneOf (bytes " B") (at h 63)
-    && reading (rule40 h) (if-so (isSpanned h) (isBlocked h))
+    && unless-at-fault (rule40 h) (if-so (isSpanned h) (isBlocked h))
     && if-so (levelSpace h) (isSpace (at h 63))
 
 -- "41 space, B. 42 a-set. 43 space, P. 45 space, C, L. 46-47 spaces or 01-99."
@@ -155,19 +158,19 @@ rule67 h = spacesOrDate (field h 67 72) || same (field h 67 72) (bytes "999999")
 unfoldable pub rule54 : Geometry → List ℕ → Bool
 rule54 g h =
     (spaces (field h 54 57) || digits (field h 54 57))
-    && reading (rule23 g h && rule40 h) (if-so (isFixed h) (between 1 (blockLength h) (recordLength h)))
-    && reading (rule23 g h && rule40 h && rule63 h) (if-so (isFixed h && not (isBlocked h)) (eqb (recordLength h) (blockLength h)))
-    && reading (rule23 g h && rule40 h && rule63 h) (if-so (isFixed h && isBlocked h) (eqb (blockLength h % recordLength h) 0))
-    && reading (rule23 g h) (if-so (levelSpace h) (eqb (recordLength h) (blockLength h)))
-    && reading (rule23 g h && rule40 h) (if-so (isVariable h) (between 4 (blockLength h) (recordLength h)))
+    && unless-at-fault (rule23 g h && rule40 h) (if-so (isFixed h) (between 1 (blockLength h) (recordLength h)))
+    && unless-at-fault (rule23 g h && rule40 h && rule63 h) (if-so (isFixed h && not (isBlocked h)) (eqb (recordLength h) (blockLength h)))
+    && unless-at-fault (rule23 g h && rule40 h && rule63 h) (if-so (isFixed h && isBlocked h) (eqb (blockLength h % recordLength h) 0))
+    && unless-at-fault (rule23 g h) (if-so (levelSpace h) (eqb (recordLength h) (blockLength h)))
+    && unless-at-fault (rule23 g h && rule40 h) (if-so (isVariable h) (between 4 (blockLength h) (recordLength h)))
 
 -- "58-62 unused count U, spaces meaning 0, below B; 0 if unblocked; for F a multiple of R."
 unfoldable pub rule58 : Geometry → List ℕ → Bool
 rule58 g h =
     (spaces (field h 58 62) || digits (field h 58 62))
-    && reading (rule23 g h) (ltb (unusedCount h) (blockLength h))
-    && reading (rule63 h) (if-so (not (isBlocked h)) (eqb (unusedCount h) 0))
-    && reading (rule23 g h && rule40 h && rule54 g h) (if-so (isFixed h) (eqb (unusedCount h % recordLength h) 0))
+    && unless-at-fault (rule23 g h) (ltb (unusedCount h) (blockLength h))
+    && unless-at-fault (rule63 h) (if-so (not (isBlocked h)) (eqb (unusedCount h) 0))
+    && unless-at-fault (rule23 g h && rule40 h && rule54 g h) (if-so (isFixed h) (eqb (unusedCount h % recordLength h) 0))
 
 -- "64 space, S. 73 a-set."
 unfoldable pub rule64 : List ℕ → Bool
@@ -178,7 +181,7 @@ rule73 h = aSet (at h 73)
 
 -- "75-79 data end: not before start, an address or the one past the last."
 unfoldable pub rule75 : Geometry → List ℕ → Bool
-rule75 g h = isDataEnd g (field h 75 79) && reading (rule29 g h) (not (before g (dataEndOf h) (startOf h)))
+rule75 g h = isDataEnd g (field h 75 79) && unless-at-fault (rule29 g h) (not (before g (dataEndOf h) (startOf h)))
 
 -- The table. "Another level has only 1-4, 29-33, 35-39 and 44 judged." "Other positions are not judged." "With 44 outside the a-set every field is judged,
 -- without the parts that name a level": such a 44 is not `anotherLevel`, and no level's test holds there.

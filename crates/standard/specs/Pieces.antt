@@ -104,17 +104,17 @@ pub data Token : Type 0 where
 
 -- "After 1 or 2 the rest of the block is fill"
 abbrev pub afterPart : Role → ℕ → ℕ → List ℕ → List Token → List Token
-afterPart whole b o rest more = more
-afterPart first b o rest more = cond (isFill rest) [] (bad b o ∷ [])
-afterPart middle b o rest more = cond (isFill rest) [] (bad b o ∷ [])
-afterPart last b o rest more = more
+afterPart whole b o rest behind = behind
+afterPart first b o rest behind = cond (isFill rest) [] (bad b o ∷ [])
+afterPart middle b o rest behind = cond (isFill rest) [] (bad b o ∷ [])
+afterPart last b o rest behind = behind
 
 -- "A block of fill alone holds nothing."
 abbrev pub tokensAt : ℕ → ℕ → List ℕ → (ℕ → List ℕ → List Token) → Piece → List Token
-tokensAt b o rest more blank = []
-tokensAt b o rest more broken = bad b o ∷ []
-tokensAt b o rest more (piece k body size) =
-    part k body b o (o + size) ∷ afterPart k b (o + size) (drop size rest) (more (o + size) (drop size rest))
+tokensAt b o rest go blank = []
+tokensAt b o rest go broken = bad b o ∷ []
+tokensAt b o rest go (piece k body size) =
+    part k body b o (o + size) ∷ afterPart k b (o + size) (drop size rest) (go (o + size) (drop size rest))
 
 -- the pieces of block b from offset o on, where `rest` is its content from o on. The first argument bounds their number: each takes a byte or more
 unfoldable pub walk : ℕ → Params → ℕ → ℕ → List ℕ → List Token

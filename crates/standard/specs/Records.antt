@@ -1,13 +1,14 @@
--- Section "Blocks and records": reading and salvage from a place, and the declared list of records.
+-- Section "Blocks and records": what one reading of a place meets, plainly or by salvage. Contracts go by this file; the whole list of a file's records, of
+-- which the promises speak, is in Listed.
 -- Assumes nothing.
-use Prim.Native.Nat.{ℕ, zero, suc, _+_, _%_}
+use Prim.Native.Nat.{ℕ, _%_}
 use mathlib.Core.Bool.{Bool, true, false, cond, _&&_}
 use mathlib.Core.List.{List, [], _∷_, _++_}
 use lib.ListN.{length, getD}
 use lib.Dec.{leb, ltb, eqb}
-use Rattle.standard.specs.Pieces.{Block, lostBlock, held, sizeOf, Role, whole, first, middle, last, Token, part, bad, lost, inBlocks, ahead}
+use Rattle.standard.specs.Pieces.{Block, held, sizeOf, Role, whole, first, middle, last, Token, part, bad, lost, ahead}
 use Rattle.standard.specs.Refusals.{refuse, refuseAt}
-use Rattle.standard.specs.Places.{start}
+use Rattle.standard.specs.Places.{placeAt, markAt, behindAt, goesOn, afterGap}
 use Rattle.standard.specs.Labels.{Format, fixed, variable, spanned, Params}
 use Rattle.standard.specs.declared.Refusal.{Refusal}
 use Rattle.standard.specs.declared.Place.{Place}
@@ -21,8 +22,8 @@ pub record File : Type 0 where
   pub params : Params
   pub blocks : List Block
 
--- A record: its body, and the blocks where it begins and ends.
-pub record Record : Type 0 where
+-- A record of the file: its body, and the blocks where it begins and ends.
+pub record FileRecord : Type 0 where
   pub body : List ℕ
   pub firstBlock : ℕ
   pub lastBlock : ℕ
@@ -39,7 +40,7 @@ refuse22 = refuse 22 0
 
 -- What one reading of a place meets: a record and the place behind it, a lost block and the place behind it, the end, or a refusal.
 pub data Met : Type 0 where
-  took : Record → Place → Met
+  took : FileRecord → Place → Met
   gapped : (block : ℕ) → Place → Met
   ended : Met
   refused : Refusal → Met
@@ -81,42 +82,53 @@ meet p (within acc f) first body b = breach
 meet p (within acc f) middle body b = cond (over p (length (acc ++ body))) breach (carry (within (acc ++ body) f))
 meet p (within acc f) last body b = cond (over p (length (acc ++ body))) breach (deliver (acc ++ body) f)
 
+-- WHAT COMES OF THE END, OF A LOST BLOCK, OF A PIECE, each by cases: said once for one reading, which answers, and for a list (Listed), which goes on.
 -- "file ends after a 1 or 2 not dropped"
+abbrev pub onEnd : {A : Type 0} → State → A → (Refusal → A) → A
+onEnd fresh finish stop = finish
+onEnd marked finish stop = finish
+onEnd (within body f) finish stop = stop refuse22
+
+-- "plain reading meets a lost block"; salvage has a gap there
+abbrev pub onLost : {A : Type 0} → Mode → ℕ → A → (Refusal → A) → A
+onLost plain b pass stop = stop (refuse20 b)
+onLost salvage b pass stop = pass
+
+-- of a piece of block b at offset o, by what it does to the reader
+abbrev pub onMove : {A : Type 0} → Move → ℕ → ℕ → (FileRecord → A) → (State → A) → (Refusal → A) → A
+onMove (deliver body f) b o give go stop = give (record { body = body; firstBlock = f; lastBlock = b })
+onMove (carry st) b o give go stop = go st
+onMove breach b o give go stop = stop (refuse21 b o)
+
 abbrev pub atEnd : State → Met
-atEnd fresh = ended
-atEnd marked = ended
-atEnd (within body f) = refused refuse22
+atEnd st = onEnd st ended refused
 
 -- "Meeting it, also midway in a spanned record, gives one gap and the next block's start, marked."
 abbrev pub atLost : Mode → ℕ → Met
-atLost plain b = refused (refuse20 b)
-atLost salvage b = gapped b (record { block = suc b; offset = 0; mark = true })
+atLost m b = onLost m b (gapped b (afterGap (goesOn (placeAt b 0)))) refused
 
+-- "Reading a place gives the record and the place right behind it": n is the offset behind the piece
 abbrev pub afterMove : Move → ℕ → ℕ → ℕ → (State → Met) → Met
-afterMove (deliver body f) b o n more = took (record { body = body; firstBlock = f; lastBlock = b }) (record { block = b; offset = n; mark = false })
-afterMove (carry st) b o n more = more st
-afterMove breach b o n more = refused (refuse21 b o)
+afterMove mv b o n go = onMove mv b o (λ r. took r (behindAt n (placeAt b o))) go refused
 
--- the answer to a reader in a state, of which the list is what it has before it. A block of fill has no tokens, so the state stays: "A block of fill keeps
+-- what a reader in a state meets first, of which the list is what it has before it. A block of fill has no tokens, so the state stays: "A block of fill keeps
 -- it." Where nothing is left, "block = count .. answers End".
-unfoldable pub answer : Mode → Params → List Token → State → Met
-answer m p [] st = atEnd st
-answer m p (part k body b o n ∷ ts) st = afterMove (meet p st k body b) b o n (λ st′. answer m p ts st′)
-answer m p (bad b o ∷ ts) st = refused (refuse21 b o)
-answer m p (lost b ∷ ts) st = atLost m b
+unfoldable pub firstMet : Mode → Params → List Token → State → Met
+firstMet m p [] st = atEnd st
+firstMet m p (part k body b o n ∷ ts) st = afterMove (meet p st k body b) b o n (λ st′. firstMet m p ts st′)
+firstMet m p (bad b o ∷ ts) st = refused (refuse21 b o)
+firstMet m p (lost b ∷ ts) st = atLost m b
 
 -- "In plain reading, at offsets above 0, and in F and V, the mark counts as absent."
 abbrev pub entering : Mode → Format → ℕ → Bool → State
 entering plain f o mark = fresh
 entering salvage fixed o mark = fresh
 entering salvage variable o mark = fresh
-entering salvage spanned o false = fresh
-entering salvage spanned zero true = marked
-entering salvage spanned (suc o) true = fresh
+entering salvage spanned o mark = cond (markAt o mark) marked fresh
 
 -- THE STEP: one reading of a place
 unfoldable pub step : Mode → File → Place → Met
-step m f pl = answer m (f .params) (ahead (f .params) (f .blocks) (pl .block) (pl .offset)) (entering m (f .params .format) (pl .offset) (pl .mark))
+step m f pl = firstMet m (f .params) (ahead (f .params) (f .blocks) (pl .block) (pl .offset)) (entering m (f .params .format) (pl .offset) (pl .mark))
 
 -- "Any place in the file may be asked; F offsets are multiples of R; offset at most the content; block = count only with offset 0"
 abbrev pub aligned : Format → ℕ → ℕ → Bool
@@ -129,62 +141,3 @@ inFile f pl =
     cond (ltb (pl .block) (length (f .blocks)))
     (leb (pl .offset) (sizeOf (getD (f .blocks) (pl .block) (held []))) && aligned (f .params .format) (f .params .R) (pl .offset))
     (eqb (pl .block) (length (f .blocks)) && eqb (pl .offset) 0)
-
--- what a row of readings yields: its records and gaps, and then End or the refusal
-pub data Item : Type 0 where
-  rec : Record → Item
-  gap : (block : ℕ) → Item
-  end : Item
-  no : Refusal → Item
-
-abbrev pub follow : Met → (Place → List Item) → List Item
-follow (took r pl) more = rec r ∷ more pl
-follow (gapped b pl) more = gap b ∷ more pl
-follow ended more = end ∷ []
-follow (refused r) more = no r ∷ []
-
--- reading on from a place, at most n readings
-unfoldable pub readOn : ℕ → Mode → File → Place → List Item
-readOn zero m f pl = []
-readOn (suc n) m f pl = follow (step m f pl) (λ pl′. readOn n m f pl′)
-
--- enough for every file: a reading for each byte and each block, and one for End
-unfoldable pub enough : List Block → ℕ
-enough [] = 1
-enough (lostBlock sz ∷ bs) = 1 + enough bs
-enough (held c ∷ bs) = 1 + length c + enough bs
-
-unfoldable pub readAll : Mode → File → List Item
-readAll m f = readOn (enough (f .blocks)) m f start
-
--- THE DECLARED LIST, straight from the blocks: their pieces in order, joined
-abbrev pub stateAfterGap : Format → State
-stateAfterGap fixed = fresh
-stateAfterGap variable = fresh
-stateAfterGap spanned = marked
-
-abbrev pub joinMove : Move → ℕ → ℕ → (State → List Item) → List Item
-joinMove (deliver body f) b o more = rec (record { body = body; firstBlock = f; lastBlock = b }) ∷ more fresh
-joinMove (carry st) b o more = more st
-joinMove breach b o more = no (refuse21 b o) ∷ []
-
-abbrev pub joinEnd : State → Item
-joinEnd fresh = end
-joinEnd marked = end
-joinEnd (within body f) = no refuse22
-
-abbrev pub joinLost : Mode → ℕ → List Item → List Item
-joinLost plain b more = no (refuse20 b) ∷ []
-joinLost salvage b more = gap b ∷ more
-
-unfoldable pub join : Mode → Params → List Token → State → List Item
-join m p [] st = joinEnd st ∷ []
-join m p (part k body b o n ∷ ts) st = joinMove (meet p st k body b) b o (λ st′. join m p ts st′)
-join m p (bad b o ∷ ts) st = no (refuse21 b o) ∷ []
-join m p (lost b ∷ ts) st = joinLost m b (join m p ts (stateAfterGap (p .format)))
-
-unfoldable pub listed : Mode → File → List Item
-listed m f = join m (f .params) (inBlocks (f .params) 0 (f .blocks)) fresh
-
-abbrev pub records : File → List Item
-records f = listed plain f

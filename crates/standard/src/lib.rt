@@ -220,22 +220,24 @@ impl Place {
         }
     }
 
-    // Enter the next block of a file of `count` blocks. The mark stays. Behind the last block there is none: the number stays.
+    // Enter the next block of a file of `count` blocks. The mark stays, but "at offsets above 0 .. the mark counts as absent". Behind the last block there is no
+    // next one: the number stays.
     pub fn next_block(self, count: u64) -> Place
         ensures { λ r. ⌜ r ≡ nextBlock count self ⌝ }
     {
         let b = self.block;
+        let mark = self.mark & (self.offset == 0);
         if b < count {
             return Place {
                 block: b + 1,
                 offset: 0,
-                mark: self.mark,
+                mark: mark,
             };
         }
         Place {
             block: b,
             offset: 0,
-            mark: self.mark,
+            mark: mark,
         }
     }
 

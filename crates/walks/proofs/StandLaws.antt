@@ -15,6 +15,7 @@ use Rattle.standard.specs.Records.{within, deliver, carry, breach, overIn, over
 use Rattle.standard.specs.Places.{nextBlock, afterGap}
 use Rattle.standard.specs.declared.Place.{Place}
 use Rattle.promises.specs.Ground.Basics.{cond-elim, by-test, or-l, or-r, or-rest}
+use Rattle.promises.specs.Reading.GoingOn.{next-inside}
 use Rattle.labels.specs.Forms.{formatFor}
 use Rattle.labels.specs.declared.Form.{Form}
 use Rattle.pieces.specs.Looks.{roleFor, headOf}
@@ -193,15 +194,13 @@ carry-state limit s digit n b t acc more e = go t (carry-says limit s digit n b 
 
 -- a lost block, and the next one
 pub lost-salvage : (s : Bool) (pl q r : Place) (count : ℕ) → s ≡ true → pl .block < count → q ≡ nextBlock count pl → r ≡ afterGap q → Lost r ≡ lostBy s (pl .block)
-unfolding nextBlock
-lost-salvage s pl q r count e l n g = rw (e, g, n, lt-ltb (pl .block) count l)
+lost-salvage s pl q r count e l n g = rw (e, g, n, next-inside count pl l)
 
 pub lost-plain : (s : Bool) (b : ℕ) → s ≡ false → Failed (refuse20 b) ≡ lostBy s b
 lost-plain s b e = rw e
 
 pub entered-next : (q pl : Place) (count : ℕ) → q ≡ nextBlock count pl → pl .block < count → (q .block ≡ pl .block + 1) × (q .offset ≡ 0)
-unfolding nextBlock
-entered-next q pl count n l = rw (n, lt-ltb (pl .block) count l) (refl, refl)
+entered-next q pl count n l = rw (n, next-inside count pl l) (omega arith, refl)
 
 -- `0`-`3` by the code's test
 pub one-or-two : (d : ℕ) → (eqb d 1 || eqb d 2) ≡ true → (d ≡ 1) ⊎ (d ≡ 2)

@@ -11,7 +11,7 @@ use lib.Dec.{eqb}
 use native.Mathlib.Omega.{arith}
 use native.Mathlib.Nat.{mul-le-mul-right}
 use Rattle.standard.specs.Pieces.{Block, lostBlock, held, Piece, piece, isFill, look, lookIn, ahead}
-use Rattle.standard.specs.Records.{State, Met, took, refuse21, atLost, answer}
+use Rattle.standard.specs.Records.{State, Met, took, refuse21, atLost, firstMet}
 use Rattle.standard.specs.Files.{goodRecords, recordsToBlock, contentSize, anyFailed, bytesOf, blockOf, blocksFrom, fileIn}
 use Rattle.standard.specs.declared.Geometry.{Geometry}
 use Rattle.standard.specs.declared.Place.{Place}
@@ -148,7 +148,7 @@ module _ (image : List ℕ) (f : FileNumbers) (w : Walk) (e : Entered image f w)
 
   -- what a reader meets at another place
   abbrev metAt : Bool → ℕ → ℕ → State → Met
-  metAt s i j st = answer (modeOf s) (fileOf image f .params) (ahead (fileOf image f .params) (fileOf image f .blocks) i j) st
+  metAt s i j st = firstMet (modeOf s) (fileOf image f .params) (ahead (fileOf image f .params) (fileOf image f .blocks) i j) st
 
   met-at : (s : Bool) (v : Walk) (i j : ℕ) (t : Stand) (body : List ℕ) → v .place .block ≡ i → v .place .offset ≡ j → v .stand ≡ t
       → metAt s i j (stateWith body t) ≡ metFrom image f s v body
@@ -156,10 +156,7 @@ module _ (image : List ℕ) (f : FileNumbers) (w : Walk) (e : Entered image f w)
 
   -- THE EXITS OF A TURN
   gap-is : (i : ℕ) → _≡_ {A = Met} (atLost (modeOf true) i) (metWith [] (lostBy true i))
-  gap-is i =
-      let p : i + 1 ≡ suc i = omega arith in
-      let q : i + 1 - 1 ≡ i = omega arith in
-      rw (q, p)
+  gap-is i = let q : suc i - 1 ≡ i = omega arith in rw q
 
   pub turned-lost : (s : Bool) (x : Measured) → anyFailed (f .g) image records ≡ true → x ≡ lostBy s b → Turned image f s w (Done x)
   turned-lost s x h q = subst (λ (y : Measured). Turned image f s w (Done y)) (sym q) (go s)

@@ -6,6 +6,7 @@ use mathlib.Core.List.{List}
 use lib.ListN.{length}
 use lib.Dec.{ltb, eqb}
 use Rattle.standard.specs.Labels.{Format, fixed, variable, spanned, Params}
+use Rattle.standard.specs.Places.{placeAt, goesOn, afterGap}
 use Rattle.standard.specs.Records.{State, fresh, marked, within, Move as MoveOf, deliver, carry, breach, overIn, Met, took, gapped, ended, refused, refuse20, refuse22}
 use Rattle.walks.specs.declared.Stand.{Stand}
 use Rattle.walks.specs.declared.Stand.the-variants.{Fresh, Marked, Within}
@@ -82,5 +83,5 @@ endedBy (Within n f) = Failed refuse22
 
 -- "Meeting it .. gives one gap and the next block's start, marked."; 20 "plain reading meets a lost block", block
 abbrev pub lostBy : Bool → ℕ → Measured
-lostBy true b = Lost (record { block = b + 1; offset = 0; mark = true })
+lostBy true b = Lost (afterGap (goesOn (placeAt b 0)))
 lostBy false b = Failed (refuse20 b)

@@ -6,7 +6,7 @@ use mathlib.Core.Bool.{Bool, true, false}
 use mathlib.Core.List.{List, _++_}
 use lib.ListN.{length, take}
 use Rattle.standard.specs.Pieces.{lookIn, ahead}
-use Rattle.standard.specs.Records.{Mode, plain, salvage, Met, answer}
+use Rattle.standard.specs.Records.{Mode, plain, salvage, Met, firstMet}
 use Rattle.standard.specs.Files.{anyFailed}
 use Rattle.labels.specs.Forms.{formatFor}
 use Rattle.extents.specs.Cursors.{standing}
@@ -31,7 +31,7 @@ modeOf false = plain
 abbrev pub metFrom : List ℕ → FileNumbers → Bool → Walk → List ℕ → Met
 metFrom image f s w body =
     let file = fileOf image f in
-    answer (modeOf s) (file .params) (ahead (file .params) (file .blocks) (w .place .block) (w .place .offset)) (stateWith body (w .stand))
+    firstMet (modeOf s) (file .params) (ahead (file .params) (file .blocks) (w .place .block) (w .place .offset)) (stateWith body (w .stand))
 
 -- a walk in the file: its cursor is on the first record of its block
 abbrev pub Walking : List ℕ → FileNumbers → Walk → Type 0

@@ -1,20 +1,18 @@
 -- The plan carried out is the image afterwards.
 -- Assumes nothing.
-use Prim.Native.Nat.{ℕ, _+_, _*_, _/_, _<_, _≤_}
+use Prim.Native.Nat.{ℕ, _*_, _<_, _≤_}
 use mathlib.Core.Path.{_≡_, refl, sym, ap, subst, _∙_}
-use mathlib.Core.Bool.{true, false}
+use mathlib.Core.Bool.{true}
 use mathlib.Core.List.{List, [], _∷_}
 use lib.ListN.{length}
 use native.Mathlib.Omega.{arith}
-use borrow.Author.Tests.{eqb-true, not-false}
-use native.Mathlib.Nat.{mul-le-mul-right, le-div-iff-mul-le, div-add-mod'}
+use native.Mathlib.Nat.{mul-le-mul-right}
 use Rattle.standard.specs.Layout.{labelAt}
-use Rattle.standard.specs.Labels.{Format, fixed, formatOf, isBlocked, blockLength, recordLength}
-use Rattle.standard.specs.Refusals.{refuse}
+use Rattle.standard.specs.Labels.{Format, formatOf, isBlocked, blockLength, recordLength}
 use Rattle.standard.specs.Files.{extent, goodRecords, recordsToBlock}
 use Rattle.standard.specs.Judgement.{judged}
 use Rattle.standard.specs.Packing.{packIn, pack}
-use Rattle.standard.specs.Writing.{Outcome, wrongIn, wrongLength, lengthsFrom, total, parted, packing, writeRefusal, setLabel, imageWith, outcome, written, imageAfter}
+use Rattle.standard.specs.Writing.{Outcome, lengthsFrom, total, parted, packing, writeRefusal, setLabel, imageWith, outcome, written, imageAfter}
 use Rattle.standard.specs.declared.Geometry.{Geometry}
 use Rattle.standard.specs.declared.Address.{Address}
 use Rattle.standard.specs.declared.Refusal.{Refusal}
@@ -24,8 +22,7 @@ use Rattle.standard.specs.declared.Checked.{Checked}
 use Rattle.standard.specs.declared.Written.{Written}
 use Rattle.standard.specs.declared.Written.the-variants.{Unwritten, Blocks}
 use Rattle.promises.specs.Ground.Basics.{never}
-use Rattle.promises.specs.Volumes.LabelRules.{Rules, Shape, shape, isF, isV, isS, block-fits, fixed-low, fixed-high, fixed-whole}
-use Rattle.promises.specs.Volumes.Judging.{stop-first, stop-rest}
+use Rattle.promises.specs.Volumes.LabelRules.{Rules, block-fits}
 use Rattle.promises.specs.Ground.Lists.{Every}
 use Rattle.promises.specs.Volumes.AcceptedLaws.{image-length}
 use Rattle.promises.specs.Writing.AcceptedWrite.{passing, outcome-is, label-range, stored, stored-whole}
@@ -34,7 +31,7 @@ use Rattle.promises.specs.Extents.FullBlocks.{records-few}
 use Rattle.promises.specs.Writing.PackedRecords.{Sized as SizedBlocks}
 use Rattle.promises.specs.Writing.StoredBlocks.{sizes-fitting}
 use Rattle.promises.specs.Writing.WrittenLabel.{old-rules, packing-right, records-some}
-use Rattle.promises.specs.Writing.NeededLaws.{EachFits, each-fits}
+use Rattle.promises.specs.Writing.NeededLaws.{EachFits, each-fits, Tiled, tiled}
 use Rattle.promises.specs.Extents.ExtentAddresses.{good-legal}
 use Rattle.labels.specs.declared.Form.the-variants.{Fixed}
 use Rattle.labels.specs.Forms.{formIn, formatFor, format-back}
@@ -45,7 +42,6 @@ use Rattle.volume.proofs.NumberLaws.{slotted-of}
 use Rattle.finding.proofs.FindLaws.{room-there}
 use Rattle.files.proofs.Blocks.{extent-on}
 use Rattle.filling.specs.Poured.{poured, flat}
-use Rattle.laying.specs.Ahead.{Tiled}
 use Rattle.filling.proofs.BlockLaws.{pour-blocks}
 use Rattle.ending.proofs.EndSizes.{end-small}
 use Rattle.writing.specs.Plans.{planFor, planOf, planOr, planIn, Accepted}
@@ -55,28 +51,9 @@ use Rattle.writing.proofs.PlanLaws.{low}
 use Rattle.writing.specs.declared.Planned.the-variants.{Stop, Go}
 
 -- F: every record has R bytes, "a divisor of B"
-lengths-R : (h : List ℕ) → formatOf h ≡ fixed → (i : ℕ) (lengths : List ℕ) → lengthsFrom h i lengths ≡ Passed → Every (λ n. n ≡ recordLength h) lengths
-unfolding lengthsFrom wrongLength
-lengths-R h f i [] p = tt
-lengths-R h f i (n ∷ lengths) p =
-    let q : wrongIn fixed (blockLength h) (recordLength h) n ≡ false = rw f at (stop-first (wrongLength h n) _ (lengthsFrom h (i + 1) lengths) p) in
-    (eqb-true n (recordLength h) (not-false _ q), lengths-R h f (i + 1) lengths (stop-rest (wrongLength h n) (refuse 26 i) (lengthsFrom h (i + 1) lengths) p))
-
-tiled : (g : Geometry) (h lengths : List ℕ) → Rules g h → lengthsFrom h 0 lengths ≡ Passed → formIn (formatOf h) ≡ Fixed → Tiled (blockLength h) lengths
-tiled g h lengths r p e = go (shape h (r .r40))
-  where
-    go : Shape h → Tiled (blockLength h) lengths
-    go (isF f t) =
-        record {
-          R = recordLength h;
-          some = fixed-low g h r t;
-          q = blockLength h / recordLength h;
-          many = le-div-iff-mul-le (fixed-low g h r t) .1 (omega (arith, fixed-high g h r t));
-          whole = omega (arith, div-add-mod' (blockLength h) (recordLength h), fixed-whole g h r t);
-          each = lengths-R h f 0 lengths p;
-        }
-    go (isV f t) = never (cc)
-    go (isS f t) = never (cc)
+tiled-form : (g : Geometry) (h lengths : List ℕ) → Rules g h → lengthsFrom h 0 lengths ≡ Passed → formIn (formatOf h) ≡ Fixed
+    → Tiled (recordLength h) (blockLength h) lengths
+tiled-form g h lengths r p e = tiled g h lengths r p (sym (format-back (formatOf h)) ∙ ap formatFor e)
 
 -- ---- AN ACCEPTED WRITE
 module _ (g : Geometry) (image : List ℕ) (slot : ℕ) (bodies lengths : List ℕ) (j : judged image ≡ Volume g) (w : writeRefusal g image slot bodies lengths ≡ Passed) where
@@ -100,7 +77,7 @@ module _ (g : Geometry) (image : List ℕ) (slot : ℕ) (bodies lengths : List �
   -- what the layers below ask
   abbrev Storable : Plan → Type 0
   Storable p =
-      (1 ≤ p .m) × (p .B ≤ p .m * g .P) × (p .m * g .P < 4294967296) × EachFits (formatFor (p .form)) (p .B) lengths × (p .form ≡ Fixed → Tiled (p .B) lengths) × (total lengths ≡ length bodies)
+      (1 ≤ p .m) × (p .B ≤ p .m * g .P) × (p .m * g .P < 4294967296) × EachFits (formatFor (p .form)) (p .B) lengths × (p .form ≡ Fixed → Tiled (recordLength theLabel) (p .B) lengths) × (total lengths ≡ length bodies)
 
   storable : Storable thePlan
   unfolding planFor
@@ -111,7 +88,7 @@ module _ (g : Geometry) (image : List ℕ) (slot : ℕ) (bodies lengths : List �
         block-fits g theLabel r,
         omega (arith, mul-le-mul-right (g .P) (records-few g theLabel (low image g slot j (k .labelled) (k .known))), numbers-of image g j .size-high),
         subst (λ (f : Format). EachFits f (blockLength theLabel) lengths) (sym (format-back (formatOf theLabel))) (each-fits g theLabel r 0 lengths (k .fits)),
-        tiled g theLabel lengths r (k .fits),
+        tiled-form g theLabel lengths r (k .fits),
         k .sum,
       )
 
@@ -126,14 +103,14 @@ module _ (g : Geometry) (image : List ℕ) (slot : ℕ) (bodies lengths : List �
 
   -- the blocks over the good records
   laid-stored : (c : Cursor) (after : List ℕ) → standing g image c ≡ goodFrom g image (thePlan .first .left) (thePlan .first .at)
-      → after ≡ poured g (standing g image c) (flat (thePlan .m * g .P) (packIn (formatFor (thePlan .form)) (thePlan .blocked) (thePlan .B) (parted bodies lengths) .contents)) image
+      → after ≡ poured g (standing g image c) (flat (thePlan .m * g .P) (packIn (formatFor (thePlan .form)) (recordLength theLabel) (thePlan .blocked) (thePlan .B) (parted bodies lengths) .contents)) image
       → after ≡ stored image g slot bodies lengths j w
   unfolding planFor packing pack
   laid-stored c after es h =
       let m = recordsToBlock g theLabel in
       h
-      ∙ (ap (λ (more : List Address). poured g more (flat (m * g .P) (packIn (formatFor (formIn (formatOf theLabel))) (isBlocked theLabel) (blockLength theLabel) (parted bodies lengths) .contents)) image) (es ∙ first-good)
-      ∙ (ap (λ (f : Format). poured g (goodRecords g image theLabel) (flat (m * g .P) (packIn f (isBlocked theLabel) (blockLength theLabel) (parted bodies lengths) .contents)) image) (format-back (formatOf theLabel))
+      ∙ (ap (λ (more : List Address). poured g more (flat (m * g .P) (packIn (formatFor (formIn (formatOf theLabel))) (recordLength theLabel) (isBlocked theLabel) (blockLength theLabel) (parted bodies lengths) .contents)) image) (es ∙ first-good)
+      ∙ (ap (λ (f : Format). poured g (goodRecords g image theLabel) (flat (m * g .P) (packIn f (recordLength theLabel) (isBlocked theLabel) (blockLength theLabel) (parted bodies lengths) .contents)) image) (format-back (formatOf theLabel))
       ∙ pour-blocks g m (packing theLabel bodies lengths .contents) (goodRecords g image theLabel) image sized (good-legal g theLabel (label-range image g slot bodies lengths j w) image)
       (records-some image g slot bodies lengths j w) contents-fit))
 
@@ -165,15 +142,16 @@ module _ (g : Geometry) (image : List ℕ) (slot : ℕ) (bodies lengths : List �
 
   -- THE IMAGE AFTERWARDS, from the cursor, what was laid, and what was set
   module _ (c : Cursor) (after : List ℕ) (es : standing g image c ≡ goodFrom g image (p .first .left) (p .first .at))
-      (h : after ≡ poured g (standing g image c) (flat (p .m * g .P) (packIn (formatFor (p .form)) (p .blocked) (p .B) (parted bodies lengths) .contents)) image) where
+      (h : (R : ℕ) → (p .form ≡ Fixed → Tiled R (p .B) lengths)
+      → after ≡ poured g (standing g image c) (flat (p .m * g .P) (packIn (formatFor (p .form)) R (p .blocked) (p .B) (parted bodies lengths) .contents)) image) where
     abbrev Laid : Plan → Type 0
     Laid q =
         standing g image c ≡ goodFrom g image (q .first .left) (q .first .at)
-        → after ≡ poured g (standing g image c) (flat (q .m * g .P) (packIn (formatFor (q .form)) (q .blocked) (q .B) (parted bodies lengths) .contents)) image
+        → after ≡ poured g (standing g image c) (flat (q .m * g .P) (packIn (formatFor (q .form)) (recordLength (labelAt g image slot)) (q .blocked) (q .B) (parted bodies lengths) .contents)) image
         → after ≡ stored image g slot bodies lengths (a .0) (a .1)
 
     plan-laid : after ≡ stored image g slot bodies lengths (a .0) (a .1)
-    plan-laid = subst Laid (sym (a .2)) (laid-stored g image slot bodies lengths (a .0) (a .1) c after) es h
+    plan-laid = subst Laid (sym (a .2)) (laid-stored g image slot bodies lengths (a .0) (a .1) c after) es (h (recordLength (labelAt g image slot)) (plan-storable .4))
 
     pub plan-room : (Room g after slot) × (p .end .cylinder < 3000) × (p .end .side < 256) × (p .end .sector < 3000)
     plan-room =

@@ -245,7 +245,7 @@ test_unmade_volumes() {
     # shellcheck disable=SC2086
     ends 1 $words
     prints
-    says 'galz: refused 12 (slot 3): the file has the name of a file in a lower slot'
+    says 'galz: refused 12 (slot 3): two files with one name, that of the file in the slot'
     same broken.img want.img
     broken "$(label 3 23)" '00257'
     # shellcheck disable=SC2086

@@ -89,7 +89,7 @@ test_volumes() {
   broken "$(label 3 29)" 01008
   volume_says '11 (slot 3): the extent shares a physical record with that of a lower slot'
   broken "$(label 3 6)" 'PARTS'
-  volume_says '12 (slot 3): the file has the name of a file in a lower slot'
+  volume_says '12 (slot 3): two files with one name, that of the file in the slot'
   # every command gives the volume's refusal, and only the listing prints it too
   for words in 'read broken.img LOG' 'salvage broken.img LOG' 'write broken.img LOG /dev/null' 'extract-all broken.img dir' 'read --slot 1 broken.img'; do
     # shellcheck disable=SC2086

@@ -15,14 +15,14 @@ use Rattle.laying.proofs.store.Statement.{statement}
 use Rattle.laying.proofs.store.Tie as tie
 
 returns : tie.Need-returns
-returns c =
+returns c R tiled =
     let a = c .before .before .before .before .args in
-    stored-none (a .g) (now (a .image)) (a .c) (formatFor (a .form)) (a .blocked) (a .m * a .g .P) (a .B) (now (a .bodies)) (now (a .lengths)) (c .if1 .taken)
+    stored-none (a .g) (now (a .image)) (a .c) (formatFor (a .form)) R (a .blocked) (a .m * a .g .P) (a .B) (now (a .bodies)) (now (a .lengths)) (c .if1 .taken)
 
 returns-2 : tie.Need-returns-2
-returns-2 c =
+returns-2 c R tiled =
     let a = c .before .before .before .before .before .before .args in
-    stored-nowhere (a .g) (now (a .image)) (a .c) (formatFor (a .form)) (a .blocked) (a .m * a .g .P) (a .B) (now (a .bodies)) (now (a .lengths)) (c .if2 .taken)
+    stored-nowhere (a .g) (now (a .image)) (a .c) (formatFor (a .form)) R (a .blocked) (a .m * a .g .P) (a .B) (now (a .bodies)) (now (a .lengths)) (c .if2 .taken)
 
 wide16-requires : tie.Need-wide16-requires
 wide16-requires c κs = search needs
@@ -48,7 +48,7 @@ same-length : tie.Need-same-length
 same-length c = search needs
 
 returns-3 : tie.Need-returns-3
-returns-3 c =
+returns-3 c R tiled =
     let x = c .before .before .before .before .before .before .before .before .before .before .before .before .before .before .before in
     let a = x .args in
     let b = c .before .before .before .before .before .before .begin in
@@ -56,8 +56,8 @@ returns-3 c =
     let w = c .before .before .before .before .before .before .before .before .wide16 in
     let e : a .m * w .result ≡ a .m * a .g .P = ap (λ (k : ℕ). a .m * k) (w .ensures .0) in
     let some : 1 ≤ a .m * a .g .P = omega (arith, x .pre .0 .1, mul-le-mul-right (a .g .P) (x .pre .2)) in
-    stored-all (a .g) (now (a .image)) (a .c) (formatFor (a .form)) (a .blocked) (a .m * a .g .P) (a .B) (now (a .bodies)) (now (a .lengths)) (b .last .1 .0) (t .last .1 .0) (b .result) (t .result) some (c .before .before .before .before .before .before .before .before .before .before .before .if1 .left) (b .ensures .0)
-    (subst (λ (k : ℕ). Lays (a .g) (b .last .1 .0) (b .result) (flat k (packIn (formatFor (a .form)) (a .blocked) (a .B) (parted (now (a .bodies)) (now (a .lengths))) .contents)) (t .last .1 .0) (t .result)) e (t .ensures))
+    stored-all (a .g) (now (a .image)) (a .c) (formatFor (a .form)) R (a .blocked) (a .m * a .g .P) (a .B) (now (a .bodies)) (now (a .lengths)) (b .last .1 .0) (t .last .1 .0) (b .result) (t .result) some (c .before .before .before .before .before .before .before .before .before .before .before .if1 .left) (b .ensures .0)
+    (subst (λ (k : ℕ). Lays (a .g) (b .last .1 .0) (b .result) (flat k (packIn (formatFor (a .form)) R (a .blocked) (a .B) (parted (now (a .bodies)) (now (a .lengths))) .contents)) (t .last .1 .0) (t .result)) e (t .ensures R tiled))
 
 pub store-spec : {M : Type 1} → statement M
 store-spec =

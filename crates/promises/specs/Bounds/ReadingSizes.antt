@@ -18,7 +18,8 @@ use Rattle.standard.specs.Slots.{hasLabel}
 use Rattle.standard.specs.Judgement.{judged}
 use Rattle.standard.specs.Files.{extent, extentSize, goodAmong, goodRecords, recordsToBlock, blockCount, openRefusal, contentSize, anyFailed, bytesOf, blockOf, blocksFrom, fileIn}
 use Rattle.standard.specs.Pieces.{Block, lostBlock, held, sizeOf, Role, whole, first, middle, last, Piece, blank, broken, piece, isFill, mustFill, four, roleOf, sizedV, sizedS, lookF, onlyFillV, lookV, onlyFillS, lookS, lookIn, look, Token, part, bad, lost, afterPart, tokensAt, walk, pieces, inBlock, inBlocks, fromTail, ahead}
-use Rattle.standard.specs.Records.{Mode, plain, salvage, File, Met, took, gapped, ended, refused, State, fresh, marked, within, Move, deliver, carry, breach, over, meet, atLost, afterMove, answer, entering, step, aligned, inFile}
+use Rattle.standard.specs.Places.{markAt}
+use Rattle.standard.specs.Records.{Mode, plain, salvage, File, Met, took, gapped, ended, refused, State, fresh, marked, within, Move, deliver, carry, breach, over, meet, atLost, afterMove, firstMet, entering, step, aligned, inFile}
 use Rattle.standard.specs.Reading.{unanswered, replied, replyIn, opened, reply, readAnswer}
 use Rattle.standard.specs.declared.Geometry.{Geometry}
 use Rattle.standard.specs.declared.Address.{Address}
@@ -206,13 +207,13 @@ module _ (N O : ℕ) where
     lost-fits plain b l = small-one 20 b (omega arith) (omega arith) (omega arith)
     lost-fits salvage b l = (omega arith, omega arith)
 
-    answer-fits : (m : Mode) (p : Params) (ts : List Token) (st : State) → Every Near ts → heldSoFar st + bytesIn ts ≤ W → MetFits (answer m p ts st)
-    unfolding answer bytesIn
+    answer-fits : (m : Mode) (p : Params) (ts : List Token) (st : State) → Every Near ts → heldSoFar st + bytesIn ts ≤ W → MetFits (firstMet m p ts st)
+    unfolding firstMet bytesIn
     answer-fits m p [] fresh v h = tt
     answer-fits m p [] marked v h = tt
     answer-fits m p [] (within body f) v h = small-one 22 0 (omega arith) (omega arith) (omega arith)
     answer-fits m p (part k body b o n ∷ ts) st v h =
-        move-fits (meet p st k body b) b o n (heldSoFar st + length body) (λ st′. answer m p ts st′) (meet-fits p st k body b) (omega arith) (v .0)
+        move-fits (meet p st k body b) b o n (heldSoFar st + length body) (λ st′. firstMet m p ts st′) (meet-fits p st k body b) (omega arith) (v .0)
         (λ st′ l. answer-fits m p ts st′ (v .1) (omega arith))
     answer-fits m p (bad b o ∷ ts) st v h = small-two b o (v .0 .0) (v .0 .1)
     answer-fits m p (lost b ∷ ts) st v h = lost-fits m b (v .0)
@@ -232,9 +233,11 @@ enters-empty : (m : Mode) (f : Format) (o : ℕ) (mark : Bool) → heldSoFar (en
 enters-empty plain f o mark = refl
 enters-empty salvage fixed o mark = refl
 enters-empty salvage variable o mark = refl
-enters-empty salvage spanned o false = refl
-enters-empty salvage spanned zero true = refl
-enters-empty salvage spanned (suc o) true = refl
+enters-empty salvage spanned o mark = go (markAt o mark)
+  where
+    go : (t : Bool) → heldSoFar (cond t marked fresh) ≡ 0
+    go true = refl
+    go false = refl
 
 module _ (f : File) (O W : ℕ) (n-low : length (f .blocks) < 2 ^ 16) (o-low : O < 2 ^ 15) (sizes : Every (λ x. sizeOf x ≤ O) (f .blocks))
     (all : bytesOfAll (f .blocks) ≤ W) where

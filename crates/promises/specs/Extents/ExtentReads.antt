@@ -1,21 +1,25 @@
 -- What is read of an extent: the good records, their number, the blocks.
 -- Assumes nothing.
 use Prim.Native.Nat.{ℕ, zero, suc, _<_}
-use mathlib.Core.Path.{subst, _≡_, refl}
-use mathlib.Core.Bool.{true, false}
+use mathlib.Core.Path.{subst, _≡_, refl, sym, _∙_}
+use mathlib.Core.Bool.{true, false, not}
+use mathlib.Core.Logic.{inl}
 use mathlib.Core.List.{List, [], _∷_}
 use lib.ListN.{take, drop}
 use lib.Dec.{eqb}
 use borrow.Author.Tests.{eqb-true, eq-eqb}
+use Rattle.standard.specs.Characters.{byte}
+use Rattle.standard.specs.Layout.{checkFailed}
 use Rattle.standard.specs.Addresses.{ordinal}
 use Rattle.standard.specs.Files.{extent, isDefective, goodAmong, goodRecords, recordsToBlock, goodBefore, blocksHeld, blockCount, isWrong, wrongAmong, splitsBlock, anyFailed, bytesOf, blockOf, blocksFrom, fileIn}
 use Rattle.standard.specs.declared.Geometry.{Geometry}
 use Rattle.standard.specs.declared.Address.{Address}
 use Rattle.standard.specs.declared.Checked.the-variants.{Passed}
-use Rattle.promises.specs.Ground.Basics.{by-test, true-not-false, or-right, or-rest}
+use Rattle.promises.specs.Ground.Basics.{by-test, true-not-false, or-l, or-r, or-right, or-rest}
 use Rattle.promises.specs.Ground.Lists.{Every, every-take, every-drop, every-map}
 use Rattle.promises.specs.Images.Sectors.{sectorAt, sectorOf}
-use Rattle.promises.specs.Images.SectorLaws.{same-body, same-first, same-incorrect, same-failed}
+use Rattle.promises.specs.Images.SectorLaws.{same-body}
+use Rattle.promises.specs.Images.Untrusted.{SameOrFailed, unfailed-same, alike-failed, alike-marked}
 use Rattle.promises.specs.Volumes.Judging.{stop-first, stop-rest}
 use Rattle.promises.specs.Extents.ExtentAddresses.{every-good}
 
@@ -55,45 +59,67 @@ module _ (g : Geometry) (image image′ : List ℕ) where
   abbrev pub SameDefect : Address → Type 0
   SameDefect a = isDefective g image a ≡ isDefective g image′ a
 
-  pub same-defect : 0 < g .P → (a : Address) → SameSector a → SameDefect a
+  -- the record's sector is the same, or check-failed in both images
+  abbrev pub AlikeRecord : Address → Type 0
+  AlikeRecord a = SameOrFailed g image image′ (ordinal g a)
+
+  pub same-alike : (xs : List Address) → Every SameSector xs → Every AlikeRecord xs
+  same-alike = every-map SameSector AlikeRecord (λ a e. inl e)
+
+  alike-defect : 0 < g .P → (a : Address) → AlikeRecord a → SameDefect a
   unfolding isDefective
-  same-defect p a e = rw (same-incorrect g image image′ (ordinal g a) e, same-first g image image′ (ordinal g a) e p)
+  alike-defect p a s = alike-marked g image image′ (ordinal g a) s p (λ b. eqb b (byte "F"))
+
+  alike-wrong : 0 < g .P → (a : Address) → AlikeRecord a → isWrong g image a ≡ isWrong g image′ a
+  unfolding isWrong
+  alike-wrong p a s = alike-marked g image image′ (ordinal g a) s p (λ b. not (eqb b (byte "F")))
+
+  pub same-defect : 0 < g .P → (a : Address) → SameSector a → SameDefect a
+  same-defect p a e = alike-defect p a (inl e)
 
   pub same-wrong : 0 < g .P → (a : Address) → SameSector a → isWrong g image a ≡ isWrong g image′ a
-  unfolding isWrong
-  same-wrong p a e = rw (same-incorrect g image image′ (ordinal g a) e, same-first g image image′ (ordinal g a) e p)
+  same-wrong p a e = alike-wrong p a (inl e)
 
   pub same-good : (xs : List Address) → Every SameDefect xs → goodAmong g image xs ≡ goodAmong g image′ xs
   unfolding goodAmong
   same-good [] h = refl
   same-good (a ∷ xs) h = rw (h .0, same-good xs (h .1))
 
-  pub same-wrongs : 0 < g .P → (xs : List Address) → Every SameSector xs → wrongAmong g image xs ≡ wrongAmong g image′ xs
+  pub alike-wrongs : 0 < g .P → (xs : List Address) → Every AlikeRecord xs → wrongAmong g image xs ≡ wrongAmong g image′ xs
   unfolding wrongAmong
-  same-wrongs p [] h = refl
-  same-wrongs p (a ∷ xs) h = rw (same-wrong p a (h .0), same-wrongs p xs (h .1))
+  alike-wrongs p [] h = refl
+  alike-wrongs p (a ∷ xs) h = rw (alike-wrong p a (h .0), alike-wrongs p xs (h .1))
 
-  same-any-failed : (xs : List Address) → Every SameSector xs → anyFailed g image xs ≡ anyFailed g image′ xs
+  alike-any-failed : (xs : List Address) → Every AlikeRecord xs → anyFailed g image xs ≡ anyFailed g image′ xs
   unfolding anyFailed
-  same-any-failed [] h = refl
-  same-any-failed (a ∷ xs) h = rw (same-failed g image image′ (ordinal g a) (h .0), same-any-failed xs (h .1))
+  alike-any-failed [] h = refl
+  alike-any-failed (a ∷ xs) h = rw (alike-failed g image image′ (ordinal g a) (h .0), alike-any-failed xs (h .1))
 
-  same-bytes : (xs : List Address) → Every SameSector xs → bytesOf g image xs ≡ bytesOf g image′ xs
-  unfolding bytesOf
-  same-bytes [] h = refl
-  same-bytes (a ∷ xs) h = rw (same-body g image image′ (ordinal g a) (h .0), same-bytes xs (h .1))
+  -- the bytes of a block are read only where no record of it is check-failed
+  trusted-bytes : (xs : List Address) → Every AlikeRecord xs → anyFailed g image xs ≡ false → bytesOf g image xs ≡ bytesOf g image′ xs
+  unfolding bytesOf anyFailed
+  trusted-bytes [] h k = refl
+  trusted-bytes (a ∷ xs) h k =
+      let e = unfailed-same g image image′ (ordinal g a) (h .0) (or-l (checkFailed g image (ordinal g a)) _ k) in
+      rw (same-body g image image′ (ordinal g a) e, trusted-bytes xs (h .1) (or-r (checkFailed g image (ordinal g a)) _ k))
+
+  alike-block : (size : ℕ) (xs : List Address) → Every AlikeRecord xs → blockOf g image size xs ≡ blockOf g image′ size xs
+  unfolding blockOf
+  alike-block size xs h =
+      by-test (anyFailed g image xs)
+      (λ (t : anyFailed g image xs ≡ true). rw (t, sym (alike-any-failed xs h) ∙ t))
+      (λ (t : anyFailed g image xs ≡ false). rw (alike-any-failed xs h, trusted-bytes xs h t))
 
   pub same-block : (size : ℕ) (xs : List Address) → Every SameSector xs → blockOf g image size xs ≡ blockOf g image′ size xs
-  unfolding blockOf
-  same-block size xs h = rw (same-any-failed xs h, same-bytes xs h)
+  same-block size xs h = alike-block size xs (same-alike xs h)
 
-  same-blocks : (h : List ℕ) (left : ℕ) (xs : List Address) → Every SameSector xs → blocksFrom g image h left xs ≡ blocksFrom g image′ h left xs
+  alike-blocks : (h : List ℕ) (left : ℕ) (xs : List Address) → Every AlikeRecord xs → blocksFrom g image h left xs ≡ blocksFrom g image′ h left xs
   unfolding blocksFrom
-  same-blocks h zero xs k = refl
-  same-blocks h (suc left) xs k =
+  alike-blocks h zero xs k = refl
+  alike-blocks h (suc left) xs k =
       rw (
-        same-block _ (take (recordsToBlock g h) xs) (every-take SameSector (recordsToBlock g h) xs k),
-        same-blocks h left (drop (recordsToBlock g h) xs) (every-drop SameSector (recordsToBlock g h) xs k),
+        alike-block _ (take (recordsToBlock g h) xs) (every-take AlikeRecord (recordsToBlock g h) xs k),
+        alike-blocks h left (drop (recordsToBlock g h) xs) (every-drop AlikeRecord (recordsToBlock g h) xs k),
       )
 
   -- what hangs on the good records alone
@@ -115,16 +141,16 @@ module _ (g : Geometry) (image image′ : List ℕ) where
     same-splits = rw same-before
 
   -- what hangs on the sectors of the extent
-  module _ (p : 0 < g .P) (h : List ℕ) (k : Every SameSector (extent g h)) where
-    pub same-good-records : goodRecords g image h ≡ goodRecords g image′ h
+  module _ (p : 0 < g .P) (h : List ℕ) (k : Every AlikeRecord (extent g h)) where
+    pub alike-good-records : goodRecords g image h ≡ goodRecords g image′ h
     unfolding goodRecords
-    same-good-records = same-good (extent g h) (every-map SameSector SameDefect (same-defect p) (extent g h) k)
+    alike-good-records = same-good (extent g h) (every-map AlikeRecord SameDefect (alike-defect p) (extent g h) k)
 
-    all-good-same : Every SameSector (goodRecords g image h)
+    all-good-alike : Every AlikeRecord (goodRecords g image h)
     unfolding goodRecords
-    all-good-same = every-good g image SameSector (extent g h) k
+    all-good-alike = every-good g image AlikeRecord (extent g h) k
 
-    pub same-file : fileIn g image h ≡ fileIn g image′ h
+    pub alike-file : fileIn g image h ≡ fileIn g image′ h
     unfolding fileIn
-    same-file =
-        rw (same-count h same-good-records, same-blocks h (blockCount g image′ h) (goodRecords g image h) all-good-same, same-good-records)
+    alike-file =
+        rw (same-count h alike-good-records, alike-blocks h (blockCount g image′ h) (goodRecords g image h) all-good-alike, alike-good-records)

@@ -16,7 +16,7 @@ use Rattle.standard.specs.Slots.{hasLabel}
 use Rattle.standard.specs.Judgement.{judged}
 use Rattle.standard.specs.Pieces.{inBlocks, ahead}
 use Rattle.standard.specs.Places.{start}
-use Rattle.standard.specs.Records.{Mode, plain, salvage, fresh, entering, answer, step, inFile, File}
+use Rattle.standard.specs.Records.{Mode, plain, salvage, fresh, entering, firstMet, step, inFile, File}
 use Rattle.standard.specs.Reading.{unanswered, replyIn, reply}
 use Rattle.standard.specs.Files.{extent, dataEndAtStart, blockCount, blocksFrom, fileIn, splitsBlock, refusal17, refusal18, countOr, countRefusal, counted, openRefusal}
 use Rattle.standard.specs.Creating.{lowestDeleted, createRefusal, createdStart, createdEnd, createdLabel, imageCreated}
@@ -32,7 +32,7 @@ use Rattle.promises.specs.Images.AddressLaws.{ordinal-ge}
 use Rattle.promises.specs.Volumes.AcceptedLaws.{fault-none}
 use Rattle.promises.specs.Volumes.VolumeNumbers.{numbers-of, slot-in-index}
 use Rattle.promises.specs.Extents.ExtentAddresses.{Between, rising-every, extent-rising}
-use Rattle.promises.specs.Extents.ExtentReads.{SameSector, same-wrongs}
+use Rattle.promises.specs.Extents.ExtentReads.{SameSector, same-alike, alike-wrongs}
 use Rattle.promises.specs.Volumes.FreeLaws.{has-label}
 use Rattle.promises.specs.Making.Drafts.{Fields}
 use Rattle.promises.specs.Making.Creations.{created-label, created-is-label, created-right, created-known, created-start, created-data-end, created-fields, create-edit, create-accepted}
@@ -45,7 +45,7 @@ enters-fresh salvage variable = refl
 enters-fresh salvage spanned = refl
 
 pub nothing-in : (m : Mode) (f : File) (room : ℕ) → f .blocks ≡ [] → replyIn m f start room ≡ record { answer = End start; body = [] }
-unfolding replyIn inFile step ahead inBlocks answer
+unfolding replyIn inFile step ahead inBlocks firstMet
 nothing-in m f room e = rw (e, enters-fresh m (f .params .format))
 
 one-left : (c : Checked) → inOrder (c ∷ Passed ∷ []) ≡ c
@@ -97,7 +97,7 @@ module _ (image : List ℕ) (g : Geometry) (w : List ℕ) (n : ℕ) (j : judged 
           e .others (ordinal g a) (λ (q : ordinal g a ≡ slotOrdinal slot). omega (arith, ordinal-ge g a p, slot-in-index g slot (numbers-of image g j) (e .high)))
 
   wrongs : refusal17 g image h ≡ refusal17 g t h
-  wrongs = same-wrongs g image t (numbers-of image g j .size-low) (extent g h) run-kept
+  wrongs = alike-wrongs g image t (numbers-of image g j .size-low) (extent g h) (same-alike g image t (extent g h) run-kept)
 
   -- THE COUNT: 0 blocks, or 17 with the first wrong record of the run
   count-left : countRefusal g t slot ≡ refusal17 g image h

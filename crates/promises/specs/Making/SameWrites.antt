@@ -2,10 +2,8 @@
 -- Assumes nothing.
 use Prim.Native.Nat.{ℕ, _<_}
 use mathlib.Core.Path.{_≡_, refl, sym, ap, _∙_}
-use mathlib.Core.Bool.{false}
 use mathlib.Core.List.{List}
 use lib.ListN.{length}
-use Rattle.standard.specs.Refusals.{refuse, given-when, inOrder}
 use Rattle.standard.specs.Layout.{labelAt}
 use Rattle.standard.specs.Slots.{hasLabel}
 use Rattle.standard.specs.Judgement.{judged, onVolume}
@@ -17,7 +15,7 @@ use Rattle.standard.specs.declared.Judged.{Judged}
 use Rattle.standard.specs.declared.Judged.the-variants.{Volume}
 use Rattle.standard.specs.declared.Written.the-variants.{Unwritten, Blocks}
 use Rattle.promises.specs.Ground.Basics.{by-test}
-use Rattle.promises.specs.Locality.{SameFile, write-same}
+use Rattle.promises.specs.Locality.{SameFile, write-same, write-13}
 
 abbrev done : Geometry → List ℕ → ℕ → List ℕ → List ℕ → Outcome
 done g image slot bodies lengths =
@@ -40,11 +38,6 @@ unless-same : (c : Checked) (i i′ : List ℕ) (o o′ : Outcome) → o .answer
 unless-same Passed i i′ o o′ e = e
 unless-same (Stopped r) i i′ o o′ e = refl
 
-stops-13 : (g : Geometry) (image : List ℕ) (slot : ℕ) (bodies lengths : List ℕ) → hasLabel g image slot ≡ false
-    → writeRefusal g image slot bodies lengths ≡ Stopped (refuse 13 0)
-unfolding writeRefusal inOrder given-when
-stops-13 g image slot bodies lengths h = rw h
-
 pub written-same : (g : Geometry) (image image′ : List ℕ) (slot : ℕ) → 0 < g .P → SameFile g image image′ slot → judged image ≡ Volume g → judged image′ ≡ Volume g
     → (bodies lengths : List ℕ) → written image slot bodies lengths ≡ written image′ slot bodies lengths
 written-same g image image′ slot p same j j′ bodies lengths =
@@ -57,6 +50,6 @@ written-same g image image′ slot p same j j′ bodies lengths =
     unless-same (writeRefusal g image slot bodies lengths) image image′ d d′ (ap (λ (h : List ℕ). Blocks (length (packing h bodies lengths .contents))) (same .label l))
     ∙ ap (λ (c : Checked). unless c image′ d′ .answer) refusal)
     (λ l.
-    ap (λ (c : Checked). unless c image d .answer) (stops-13 g image slot bodies lengths l)
-    ∙ sym (ap (λ (c : Checked). unless c image′ d′ .answer) (sym refusal ∙ stops-13 g image slot bodies lengths l)))
+    ap (λ (c : Checked). unless c image d .answer) (write-13 g image slot bodies lengths l)
+    ∙ sym (ap (λ (c : Checked). unless c image′ d′ .answer) (sym refusal ∙ write-13 g image slot bodies lengths l)))
     ∙ sym (written-on image′ g slot bodies lengths j′)

@@ -4,6 +4,7 @@
 use Prim.Native.Nat.{ℕ, zero, suc, _+_, _<_, _≤_}
 use mathlib.Core.Path.{_≡_, refl, sym, subst, _∙_}
 use mathlib.Core.Bool.{Bool, true, false, _&&_, _||_}
+use mathlib.Core.Logic.{inl}
 use mathlib.Core.List.{List}
 use lib.ListN.{length}
 use lib.Dec.{leb}
@@ -13,7 +14,7 @@ use Rattle.standard.specs.Layout.{slotCount, slotOrdinal, labelAt}
 use Rattle.standard.specs.Characters.{between, same}
 use Rattle.standard.specs.Addresses.{legal, rank, ordinal}
 use Rattle.standard.specs.Labels.{knownLevel, nameOf, startOf, endOf}
-use Rattle.standard.specs.Slots.{isLabel, isDeleted, slotRefusal, hasLabel}
+use Rattle.standard.specs.Slots.{isLabel, slotRefusal, hasLabel}
 use Rattle.standard.specs.Judgement.{judged, legalKind, overlap, shares, sameName, namesake}
 use Rattle.standard.specs.Finding.{isNamed, foundFrom, foundSlot}
 use Rattle.standard.specs.Files.{extent, extentSize}
@@ -30,9 +31,9 @@ use Rattle.promises.specs.Images.SectorLaws.{same-legal-kind}
 use Rattle.promises.specs.Volumes.Judging.{Accepted, none-clash, clash-none}
 use Rattle.promises.specs.Volumes.AcceptedLaws.{has-slot, label-in-range}
 use Rattle.promises.specs.Volumes.VolumeNumbers.{Numbers, slot-in-index}
-use Rattle.promises.specs.Volumes.IndexLaws.{SameFront, same-label, same-is-label, same-is-deleted, same-slot-refusal, accepted-with}
+use Rattle.promises.specs.Volumes.IndexLaws.{SameFront, same-label, same-is-label, same-slot-refusal, accepted-with}
 use Rattle.promises.specs.Extents.ExtentAddresses.{Between, rising-every, extent-rising}
-use Rattle.promises.specs.Extents.ExtentReads.{SameSector}
+use Rattle.promises.specs.Extents.ExtentReads.{SameSector, AlikeRecord}
 use Rattle.promises.specs.Locality.{SameFile}
 use Rattle.promises.specs.Volumes.FindingLaws.{same-equal, same-self}
 use Rattle.promises.specs.Volumes.FreeLaws.{extentsBelow, free-is}
@@ -203,8 +204,8 @@ module _ (g : Geometry) (image image′ : List ℕ) (slot : ℕ) (numbers : Numb
         label = λ h. other-label other ne (has-slot g image other h .1);
         sectors = λ h.
             let k = labelAt g image other in
-            every-map (Between g (rank g (startOf k)) (rank g (endOf k))) (SameSector g image image′)
-            (λ a p. data-kept a (p .0)) (extent g k)
+            every-map (Between g (rank g (startOf k)) (rank g (endOf k))) (AlikeRecord g image image′)
+            (λ a p. inl (data-kept a (p .0))) (extent g k)
             (rising-every g (rank g (startOf k)) (rank g (endOf k)) (extent g k) (extent-rising g k (label-in-range image g other j h)));
       }
     where

@@ -12,7 +12,8 @@ use Rattle.standard.specs.Layout.{labelAt}
 use Rattle.standard.specs.Judgement.{judged}
 use Rattle.standard.specs.Files.{openRefusal, fileIn}
 use Rattle.standard.specs.Pieces.{Block, lostBlock, held, Token, inBlock, fromTail, ahead}
-use Rattle.standard.specs.Records.{Mode, File, State, Item, entering, readOn, join, inFile}
+use Rattle.standard.specs.Records.{Mode, File, State, entering, inFile}
+use Rattle.standard.specs.Listed.{Item, readOn, join}
 use Rattle.standard.specs.Labels.{Params}
 use Rattle.standard.specs.declared.Geometry.{Geometry}
 use Rattle.standard.specs.declared.Place.{Place}

@@ -10,7 +10,8 @@ use lib.Dec.{ltb}
 use native.Mathlib.Omega.{arith}
 use borrow.Author.Tests.{le-ltb, ltb-false}
 use Rattle.standard.specs.Pieces.{Token}
-use Rattle.standard.specs.Records.{Mode, File, Met, took, gapped, ended, refused as refusedBy, State, step, Item, rec, gap, end, no, follow, readOn, listed, answer, inFile}
+use Rattle.standard.specs.Records.{Mode, File, Met, took, gapped, ended, refused as refusedBy, State, step, firstMet, inFile}
+use Rattle.standard.specs.Listed.{Item, rec, gap, end, no, follow, readOn, listed}
 use Rattle.standard.specs.Places.{start}
 use Rattle.standard.specs.Layout.{labelAt}
 use Rattle.standard.specs.Judgement.{judged}
@@ -35,7 +36,7 @@ Nexts (gapped b pl) = pl .block ≡ suc b
 Nexts ended = Unit {0}
 Nexts (refusedBy x) = Unit {0}
 
-answer-nexts : (m : Mode) (p : Params) (ts : List Token) (st : State) → Nexts (answer m p ts st)
+answer-nexts : (m : Mode) (p : Params) (ts : List Token) (st : State) → Nexts (firstMet m p ts st)
 answer-nexts m p ts st =
     answer-holds Nexts (λ _. Unit {0}) tt (λ x. tt) (λ k body b o e h r. tt) (λ b h. refl) m p ts (every-each (λ _. Unit {0}) (λ _. tt) ts) st
 

@@ -8,7 +8,8 @@ use lib.Seq.{take-nil, take-all}
 use native.Mathlib.Omega.{arith}
 use native.Mathlib.Nat.{not-suc-le-zero, le-of-suc-le-suc}
 use Rattle.standard.specs.Pieces.{Token, part, bad, lost, inBlocks}
-use Rattle.standard.specs.Records.{Mode, plain, salvage, File, Met, took, gapped, ended, refused as refusedBy, State, fresh, marked, within, Move, deliver, carry, breach, meet, step, Item, rec, gap, end, no, follow, readOn, enough, readAll, joinMove, joinEnd, joinLost, join, listed, stateAfterGap}
+use Rattle.standard.specs.Records.{Mode, plain, salvage, File, Met, took, gapped, ended, refused as refusedBy, State, fresh, marked, within, Move, deliver, carry, breach, meet, step}
+use Rattle.standard.specs.Listed.{Item, rec, gap, end, no, follow, readOn, enough, readAll, joinMove, joinEnd, joinLost, join, listed, stateAfterGap}
 use Rattle.standard.specs.Places.{start}
 use Rattle.standard.specs.Labels.{Params}
 use Rattle.standard.specs.declared.Place.{Place}

@@ -10,7 +10,7 @@ use lib.Dec.{leb, ltb}
 use native.Mathlib.Omega.{arith}
 use native.Mathlib.Nat.{zero-mod, add-mod-right}
 use borrow.Author.Tests.{lt-ltb, le-leb, eq-eqb, ltb-false, leb-true, ltb-true}
-use Rattle.standard.specs.Records.{Mode, plain, salvage, File, Record, refuse20, refuse21, refuse22, Met, took, gapped, ended, refused, State, fresh, marked, within, Move, deliver, carry, breach, meet, atLost, afterMove, answer, entering, step, aligned, inFile}
+use Rattle.standard.specs.Records.{Mode, plain, salvage, File, FileRecord, refuse20, refuse21, refuse22, Met, took, gapped, ended, refused, State, fresh, marked, within, Move, deliver, carry, breach, meet, atLost, afterMove, firstMet, entering, step, aligned, inFile}
 use Rattle.standard.specs.Places.{start}
 use Rattle.standard.specs.Pieces.{Block, lostBlock, held, sizeOf, Role, Piece, blank, broken, piece, lookF, lookIn, look, Token, part, bad, lost, tokensAt, pieces, inBlock, inBlocks, fromTail, ahead}
 use Rattle.standard.specs.Labels.{Format, fixed, variable, spanned, Params}
@@ -40,9 +40,9 @@ Landed f (refused x) = Unit {0}
 
 -- A PROPERTY OF WHAT IS MET: an answer has it if the end and every refusal do, each record that a token completes, and each gap that a token gives
 module _ (Q : Met → Type 0) (C : Token → Type 0) (at-end : Q ended) (at-refusal : (x : Refusal) → Q (refused x))
-    (at-record : (k : Role) (body : List ℕ) (b o e : ℕ) → C (part k body b o e) → (r : Record) → Q (took r (at b e false)))
+    (at-record : (k : Role) (body : List ℕ) (b o e : ℕ) → C (part k body b o e) → (r : FileRecord) → Q (took r (at b e false)))
     (at-gap : (b : ℕ) → C (lost b) → Q (gapped b (at (suc b) 0 true))) where
-  move-holds : (mv : Move) (b o e : ℕ) (more : State → Met) → ((r : Record) → Q (took r (at b e false))) → ((st : State) → Q (more st))
+  move-holds : (mv : Move) (b o e : ℕ) (more : State → Met) → ((r : FileRecord) → Q (took r (at b e false))) → ((st : State) → Q (more st))
       → Q (afterMove mv b o e more)
   move-holds (deliver body g) b o e more h k = h (record { body = body; firstBlock = g; lastBlock = b })
   move-holds (carry st) b o e more h k = k st
@@ -52,17 +52,17 @@ module _ (Q : Met → Type 0) (C : Token → Type 0) (at-end : Q ended) (at-refu
   lost-holds plain b h = at-refusal (refuse20 b)
   lost-holds salvage b h = at-gap b h
 
-  pub answer-holds : (m : Mode) (p : Params) (ts : List Token) → Every C ts → (st : State) → Q (answer m p ts st)
-  unfolding answer
+  pub answer-holds : (m : Mode) (p : Params) (ts : List Token) → Every C ts → (st : State) → Q (firstMet m p ts st)
+  unfolding firstMet
   answer-holds m p [] v fresh = at-end
   answer-holds m p [] v marked = at-end
   answer-holds m p [] v (within acc g) = at-refusal refuse22
   answer-holds m p (part k body b o e ∷ ts) v st =
-      move-holds (meet p st k body b) b o e (λ st′. answer m p ts st′) (at-record k body b o e (v .0)) (λ st′. answer-holds m p ts (v .1) st′)
+      move-holds (meet p st k body b) b o e (λ st′. firstMet m p ts st′) (at-record k body b o e (v .0)) (λ st′. answer-holds m p ts (v .1) st′)
   answer-holds m p (bad b o ∷ ts) v st = at-refusal (refuse21 b o)
   answer-holds m p (lost b ∷ ts) v st = lost-holds m b (v .0)
 
-answer-lands : (f : File) (m : Mode) (p : Params) (ts : List Token) → Every (Lands f) ts → (st : State) → Landed f (answer m p ts st)
+answer-lands : (f : File) (m : Mode) (p : Params) (ts : List Token) → Every (Lands f) ts → (st : State) → Landed f (firstMet m p ts st)
 answer-lands f = answer-holds (Landed f) (Lands f) tt (λ x. tt) (λ k body b o e h r. h false) (λ b h. h true)
 
 -- ---- what makes a place one of the file

@@ -7,7 +7,8 @@ use mathlib.Core.List.{map, List, [], _∷_, _++_}
 use lib.ListN.{length, length-append}
 use native.Mathlib.Omega.{arith}
 use native.Mathlib.Nat.{not-suc-le-zero, le-of-suc-le-suc}
-use Rattle.standard.specs.Records.{end, Record, Mode, plain, salvage, File, State, fresh, marked, within, Move, deliver, carry, breach, over, meet, atLost, afterMove, answer, entering, step, Item, rec, gap, follow, readOn, enough, readAll, stateAfterGap, joinMove, joinLost, join, listed}
+use Rattle.standard.specs.Records.{FileRecord, Mode, plain, salvage, File, State, fresh, marked, within, Move, deliver, carry, breach, over, meet, atLost, afterMove, firstMet, entering, step}
+use Rattle.standard.specs.Listed.{end, Item, rec, gap, follow, readOn, enough, readAll, stateAfterGap, joinMove, joinLost, join, listed}
 use Rattle.standard.specs.Places.{start}
 use Rattle.standard.specs.Pieces.{Block, lostBlock, held, Role, whole, first, middle, last, Token, part, bad, lost, walk, pieces, inBlock, inBlocks, ahead}
 use Rattle.standard.specs.Labels.{Format, fixed, variable, spanned, Params}
@@ -48,7 +49,7 @@ entering-marked spanned = refl
 
 -- n + 1 readings from where the tokens `ts` lie ahead give the list of `ts`
 pub Onward : Mode → File → ℕ → List Token → State → Type 0
-Onward m f n ts st = follow (answer m (f .params) ts st) (λ pl. readOn n m f pl) ≡ join m (f .params) ts st
+Onward m f n ts st = follow (firstMet m (f .params) ts st) (λ pl. readOn n m f pl) ≡ join m (f .params) ts st
 
 pub one-more : (m : Mode) (f : File) (n : ℕ) (pl : Place) (ts : List Token) (st : State) → ahead (f .params) (f .blocks) (pl .block) (pl .offset) ≡ ts
     → entering m (f .params .format) (pl .offset) (pl .mark) ≡ st → Onward m f n ts st → readOn (suc n) m f pl ≡ join m (f .params) ts st
@@ -57,7 +58,7 @@ one-more m f n pl ts st a s h = rw (a, s) h
 
 move-onward : (m : Mode) (f : File) (n b o e : ℕ) (ts : List Token) (k : Role) (mv : Move) → Delivers k mv → (Ends k → ahead (f .params) (f .blocks) b e ≡ ts)
     → ((st : State) → Onward m f n ts st) → ((st : State) → Onward m f (suc n) ts st)
-    → follow (afterMove mv b o e (λ st. answer m (f .params) ts st)) (λ pl. readOn (suc n) m f pl) ≡ joinMove mv b o (λ st. join m (f .params) ts st)
+    → follow (afterMove mv b o e (λ st. firstMet m (f .params) ts st)) (λ pl. readOn (suc n) m f pl) ≡ joinMove mv b o (λ st. join m (f .params) ts st)
 unfolding Onward
 move-onward m f n b o e ts k (deliver body g) d a ih ih′ =
     ap (λ (is : List Item). rec (record { body = body; firstBlock = g; lastBlock = b }) ∷ is)
@@ -73,7 +74,7 @@ lost-onward salvage f n b ts a ih =
     (one-more salvage f n (record { block = suc b; offset = 0; mark = true }) ts (stateAfterGap (f .params .format)) a (entering-marked (f .params .format)) (ih _))
 
 pub onward : (m : Mode) (f : File) (ts : List Token) → Chained (f .params) (f .blocks) ts → (n : ℕ) → length ts ≤ n → (st : State) → Onward m f n ts st
-unfolding Onward answer join
+unfolding Onward firstMet join
 onward m f [] c n h fresh = refl
 onward m f [] c n h marked = refl
 onward m f [] c n h (within body g) = refl
@@ -104,17 +105,17 @@ unfolding readAll
 readAll-listed m f = readOn-start m f (enough (f .blocks)) (enough-is (f .params) 0 (f .blocks))
 
 -- the list of a reading that refused nothing
-abbrev pub Clean : List Item → List Record → Type 0
+abbrev pub Clean : List Item → List FileRecord → Type 0
 Clean is rs = is ≡ map rec rs ++ (end ∷ [])
 
-abbrev pub bodyOf : Record → List ℕ
+abbrev pub bodyOf : FileRecord → List ℕ
 bodyOf r = r .body
 
 -- the reading gives these bodies, and then End
 pub record Reads (is : List Item) (xs : List (List ℕ)) : Type 0 where
-  pub rs : List Record
+  pub rs : List FileRecord
   pub same : map bodyOf rs ≡ xs
   pub clean : Clean is rs
 
-pub reads-cons : {is : List Item} {xs : List (List ℕ)} (r : Record) → Reads is xs → Reads (rec r ∷ is) (r .body ∷ xs)
+pub reads-cons : {is : List Item} {xs : List (List ℕ)} (r : FileRecord) → Reads is xs → Reads (rec r ∷ is) (r .body ∷ xs)
 reads-cons r h = record { rs = r ∷ h .rs; same = ap (λ (ys : List (List ℕ)). r .body ∷ ys) (h .same); clean = ap (λ (is : List Item). rec r ∷ is) (h .clean) }

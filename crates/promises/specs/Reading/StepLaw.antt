@@ -7,13 +7,13 @@ use mathlib.Core.List.{List, [], _∷_, _++_}
 use lib.ListN.{drop}
 use lib.Seq.{drop-drop}
 use Rattle.standard.specs.Pieces.{Block, lostBlock, held, Role, whole, first, middle, last, Piece, blank, broken, piece, isFill, look, Token, bad, tokensAt, pieces, inBlock, inBlocks, ahead}
-use Rattle.standard.specs.Records.{Mode, Met, refused, refuse21, State, Move, deliver, carry, breach, meet, atEnd, atLost, afterMove, answer}
+use Rattle.standard.specs.Records.{Mode, Met, refused, refuse21, State, Move, deliver, carry, breach, meet, atEnd, atLost, afterMove, firstMet}
 use Rattle.standard.specs.Labels.{Params}
 use Rattle.promises.specs.Reading.PiecesLaws.{pieces-eq, held-ahead, next-ahead}
 
 -- the answer to a reader that stands at block b, offset o in a state
 abbrev pub reading : Mode → Params → List Block → ℕ → ℕ → State → Met
-reading m p bs b o st = answer m p (ahead p bs b o) st
+reading m p bs b o st = firstMet m p (ahead p bs b o) st
 
 -- behind a piece: a whole or a last is followed by what stands there; after a first or a middle the rest is fill, and reading goes on in the next block
 abbrev pub behind : Mode → Params → List Block → ℕ → ℕ → List ℕ → Role → State → Met
@@ -40,14 +40,14 @@ move-cong (carry st) b o e f g h = h st
 move-cong breach b o e f g h = refl
 
 module _ (m : Mode) (p : Params) (bs : List Block) (b : ℕ) (c : List ℕ) (xs : List Block) (e : drop b bs ≡ held c ∷ xs) where
-  rest-law : (t : Bool) (o : ℕ) (st : State) → answer m p (cond t [] (bad b o ∷ []) ++ inBlocks p (suc b) xs) st ≡ cond t (reading m p bs (suc b) 0 st) (refused (refuse21 b o))
-  unfolding answer
+  rest-law : (t : Bool) (o : ℕ) (st : State) → firstMet m p (cond t [] (bad b o ∷ []) ++ inBlocks p (suc b) xs) st ≡ cond t (reading m p bs (suc b) 0 st) (refused (refuse21 b o))
+  unfolding firstMet
   rest-law true o st = rw (next-ahead p bs b (held c) xs e)
   rest-law false o st = refl
 
   piece-law : (o : ℕ) (st : State) (q : Piece)
-      → answer m p (tokensAt b o (drop o c) (λ o′ r. pieces p b o′ r) q ++ inBlocks p (suc b) xs) st ≡ onPiece m p bs b o c st q
-  unfolding answer
+      → firstMet m p (tokensAt b o (drop o c) (λ o′ r. pieces p b o′ r) q ++ inBlocks p (suc b) xs) st ≡ onPiece m p bs b o c st q
+  unfolding firstMet
   piece-law o st blank = rw (next-ahead p bs b (held c) xs e)
   piece-law o st broken = refl
   piece-law o st (piece whole body s) = rw (drop-drop, held-ahead p bs b c xs e (o + s))
@@ -56,11 +56,11 @@ module _ (m : Mode) (p : Params) (bs : List Block) (b : ℕ) (c : List ℕ) (xs 
   piece-law o st (piece last body s) = rw (drop-drop, held-ahead p bs b c xs e (o + s))
 
 blocks-law : (m : Mode) (p : Params) (bs : List Block) (b o : ℕ) (st : State) (xs : List Block) → drop b bs ≡ xs → reading m p bs b o st ≡ onBlocks m p bs b o st xs
-unfolding ahead answer inBlock
+unfolding ahead firstMet inBlock
 blocks-law m p bs b o st [] e = rw e
 blocks-law m p bs b o st (lostBlock sz ∷ xs) e = rw e
 blocks-law m p bs b o st (held c ∷ xs) e =
-    ap (λ (ts : List Token). answer m p ts st) (held-ahead p bs b c xs e o ∙ ap (λ (ts : List Token). ts ++ inBlocks p (suc b) xs) (pieces-eq p b o (drop o c)))
+    ap (λ (ts : List Token). firstMet m p ts st) (held-ahead p bs b c xs e o ∙ ap (λ (ts : List Token). ts ++ inBlocks p (suc b) xs) (pieces-eq p b o (drop o c)))
     ∙ piece-law m p bs b c xs e o st (look p o (drop o c))
 
 pub reading-law : (m : Mode) (p : Params) (bs : List Block) (b o : ℕ) (st : State) → reading m p bs b o st ≡ onBlocks m p bs b o st (drop b bs)

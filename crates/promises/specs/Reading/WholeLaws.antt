@@ -9,7 +9,8 @@ use lib.Dec.{ltb}
 use native.Mathlib.Omega.{arith}
 use Rattle.standard.specs.Refusals.{refuse}
 use Rattle.standard.specs.Layout.{labelAt}
-use Rattle.standard.specs.Records.{Mode, plain, Record, Item, rec, gap, end, no, records}
+use Rattle.standard.specs.Records.{Mode, plain, FileRecord}
+use Rattle.standard.specs.Listed.{Item, rec, gap, end, no, listed}
 use Rattle.standard.specs.Places.{start}
 use Rattle.standard.specs.Judgement.{judged}
 use Rattle.standard.specs.Files.{openRefusal, fileIn}
@@ -51,7 +52,7 @@ done-none hs x xs h = let z : _≡_ {A = ℕ} 0 1 = cc in omega arith
 told-first : (body x : List ℕ) (hs : List Heard) (xs : List (List ℕ)) → Whole (told body ∷ hs) (x ∷ xs) → (body ≡ x) × Whole hs xs
 told-first body x hs xs h = ((cc), (cc))
 
-rec-whole : (room : ℕ) (t : Bool) (r : Record) (is : List Item) (hs : List Heard) (bodies : List (List ℕ)) → Whole (tooLong t (r .body) hs) bodies
+rec-whole : (room : ℕ) (t : Bool) (r : FileRecord) (is : List Item) (hs : List Heard) (bodies : List (List ℕ)) → Whole (tooLong t (r .body) hs) bodies
     → ((xs : List (List ℕ)) → Whole hs xs → Reads is xs) → Reads (rec r ∷ is) bodies
 rec-whole room true r is hs bodies h ih = absurd (refused-whole (refuse 23 (length (r .body))) [] bodies h)
 rec-whole room false r is hs [] h ih = absurd (told-none (r .body) hs h)
@@ -97,8 +98,8 @@ module _ (image : List ℕ) (g : Geometry) (slot : ℕ) (bodies : List (List ℕ
   pub opens-whole : openRefusal g image slot ≡ Passed
   opens-whole = whole-opens (w .readings) (w .out) (w .hears)
 
-  pub reads-whole : Reads (records (fileIn g image (labelAt g image slot))) bodies
+  pub reads-whole : Reads (listed plain (fileIn g image (labelAt g image slot))) bodies
   reads-whole =
       let f = fileIn g image (labelAt g image slot) in
-      heard-whole (length (w .out)) (w .readings) (records f) (listed-closed plain f) bodies
+      heard-whole (length (w .out)) (w .readings) (listed plain f) (listed-closed plain f) bodies
       (sym (following-any image g slot j opens-whole plain (w .readings) (w .out)) ∙ w .hears)

@@ -15,7 +15,7 @@ use Rattle.standard.specs.Refusals.{refuse, given-when, inOrder, orElse}
 use Rattle.standard.specs.Judgement.{judged}
 use Rattle.standard.specs.Files.{openList, openRefusal, fileIn, blockCount}
 use Rattle.standard.specs.Pieces.{Block, lostBlock, held, Token, part, bad, lost, pieces, inBlock, inBlocks, fromTail, ahead}
-use Rattle.standard.specs.Records.{Mode, File, Met, took, gapped, ended, refused, State, answer, step, inFile}
+use Rattle.standard.specs.Records.{Mode, plain, salvage, File, Met, took, gapped, ended, refused, State, fresh, marked, within, Move, deliver, carry, breach, meet, atEnd, atLost, afterMove, firstMet, entering, step, inFile}
 use Rattle.standard.specs.Places.{endPlace}
 use Rattle.standard.specs.Reading.{Reply, unanswered, replied, replyIn, opened, reply, laidOver, readAnswer, outputAfter}
 use Rattle.standard.specs.Labels.{Params}
@@ -29,14 +29,14 @@ use Rattle.standard.specs.declared.Judged.{Judged}
 use Rattle.standard.specs.declared.Judged.the-variants.{Refused, Volume}
 use Rattle.standard.specs.declared.Answer.{Answer}
 use Rattle.standard.specs.declared.Answer.the-variants.{Unanswered, Record as RecordOf, Gap, End}
-use Rattle.promises.specs.Ground.Lists.{Every, every-append, every-map}
+use Rattle.promises.specs.Ground.Lists.{Every}
 use Rattle.promises.specs.Volumes.Judging.{order-append}
 use Rattle.promises.specs.Reading.PiecesLaws.{drop-tail}
 use Rattle.promises.specs.Reading.Tokens.{At, pieces-at}
-use Rattle.promises.specs.Reading.PlaceLaws.{Landed, answer-holds, step-lands, drop-inside, in-start}
+use Rattle.promises.specs.Reading.PlaceLaws.{Landed, step-lands, drop-inside, in-start}
 use Rattle.promises.specs.Salvage.SalvageImage.{file-count}
 use Rattle.promises.specs.Refusals.Refusing.{Exactly, First, order-first, first-order, replyOn}
-use Rattle.promises.specs.Ground.Basics.{never}
+use Rattle.promises.specs.Ground.Basics.{never, either, lt-or-le}
 
 -- 20, 21 or 22, as blocks are met
 abbrev pub metRefusal : Met → Checked
@@ -168,92 +168,134 @@ record-laid m image slot pl out k next h =
 abbrev pub LostIn : File → ℕ → Type 0
 LostIn f b = (b < length (f .blocks)) × (sz : ℕ) × (getD (f .blocks) b (held []) ≡ lostBlock sz)
 
-abbrev LostOne : File → Token → Type 0
-LostOne f (part k body b o e) = Unit {0}
-LostOne f (bad b o) = Unit {0}
-LostOne f (lost b) = LostIn f b
+-- b is the first lost block from block a on
+pub record FirstLost (f : File) (a b : ℕ) : Type 0 where
+  pub behind : a ≤ b
+  pub is-lost : LostIn f b
+  pub none-before : (c : ℕ) → a ≤ c → c < b → LostIn f c → ⊥
 
-none-lost : (f : File) (b : ℕ) (t : Token) → At b t → LostOne f t
-none-lost f b (part k body b′ o e) h = tt
-none-lost f b (bad b′ o) h = tt
-none-lost f b (lost b′) h = absurd h
+-- "one gap and the next block's start, marked": what a reader meets that stands in block a
+abbrev Gaps : File → ℕ → Met → Type 0
+Gaps f a (took r pl) = Unit {0}
+Gaps f a (gapped b pl) = FirstLost f a b × (pl ≡ record { block = suc b; offset = 0; mark = true })
+Gaps f a ended = Unit {0}
+Gaps f a (refused x) = Unit {0}
 
-block-lost : (f : File) (b o : ℕ) (x : Block) (xs : List Block) → drop b (f .blocks) ≡ x ∷ xs → Every (LostOne f) (inBlock (f .params) b o x)
-unfolding inBlock
-block-lost f b o (lostBlock sz) xs e = let (i, q) = drop-inside b (f .blocks) (lostBlock sz) (held []) xs e in ((i, sz, q), tt)
-block-lost f b o (held c) xs e = every-map (At b) (LostOne f) (none-lost f b) (pieces (f .params) b o (drop o c)) (pieces-at (f .params) b o (drop o c))
+-- past a block that is not lost
+gaps-past : (f : File) (a : ℕ) (s : Met) → (LostIn f a → ⊥) → Gaps f (suc a) s → Gaps f a s
+gaps-past f a (took r pl) h g = tt
+gaps-past f a (gapped b pl) h g = (
+  record {
+    behind = omega (arith, g .0 .behind);
+    is-lost = g .0 .is-lost;
+    none-before = λ c low high l.
+        either (lt-or-le a c)
+        (λ (k : a < c). g .0 .none-before c k high l)
+        (λ (k : c ≤ a). let e : c ≡ a = omega arith in h (subst (LostIn f) e l));
+  },
+  g .1,
+)
+gaps-past f a ended h g = tt
+gaps-past f a (refused x) h g = tt
 
-blocks-lost : (f : File) (b : ℕ) (xs : List Block) → drop b (f .blocks) ≡ xs → Every (LostOne f) (inBlocks (f .params) b xs)
-unfolding inBlocks
-blocks-lost f b [] e = tt
-blocks-lost f b (x ∷ xs) e =
-    every-append (LostOne f) (inBlock (f .params) b 0 x) (inBlocks (f .params) (suc b) xs) (block-lost f b 0 x xs e) (blocks-lost f (suc b) xs (drop-tail b (f .blocks) e))
+move-gaps : (f : File) (a : ℕ) (mv : Move) (b o n : ℕ) (go : State → Met) → ((st : State) → Gaps f a (go st)) → Gaps f a (afterMove mv b o n go)
+move-gaps f a (deliver body g) b o n go h = tt
+move-gaps f a (carry st) b o n go h = h st
+move-gaps f a breach b o n go h = tt
 
-tail-lost : (f : File) (b o : ℕ) (xs : List Block) → drop b (f .blocks) ≡ xs → Every (LostOne f) (fromTail (f .params) b o xs)
-tail-lost f b o [] e = tt
-tail-lost f b o (x ∷ xs) e =
-    every-append (LostOne f) (inBlock (f .params) b o x) (inBlocks (f .params) (suc b) xs) (block-lost f b o x xs e) (blocks-lost f (suc b) xs (drop-tail b (f .blocks) e))
+-- past the pieces of a block
+pieces-gaps : (f : File) (a : ℕ) (m : Mode) (p : Params) (b : ℕ) (ts more : List Token) → Every (At b) ts → ((st : State) → Gaps f a (firstMet m p more st))
+    → (st : State) → Gaps f a (firstMet m p (ts ++ more) st)
+unfolding firstMet
+pieces-gaps f a m p b [] more e h st = h st
+pieces-gaps f a m p b (part k body c o n ∷ ts) more e h st =
+    move-gaps f a (meet p st k body c) c o n (λ st′. firstMet m p (ts ++ more) st′) (λ st′. pieces-gaps f a m p b ts more (e .1) h st′)
+pieces-gaps f a m p b (bad c o ∷ ts) more e h st = tt
+pieces-gaps f a m p b (lost c ∷ ts) more e h st = absurd (e .0)
 
--- "one gap and the next block's start, marked"
-abbrev Gaps : File → Met → Type 0
-Gaps f (took r pl) = Unit {0}
-Gaps f (gapped b pl) = LostIn f b × (pl ≡ record { block = suc b; offset = 0; mark = true })
-Gaps f ended = Unit {0}
-Gaps f (refused x) = Unit {0}
+end-gaps : (f : File) (a : ℕ) (st : State) → Gaps f a (atEnd st)
+end-gaps f a fresh = tt
+end-gaps f a marked = tt
+end-gaps f a (within body g) = tt
 
-answer-gaps : (f : File) (m : Mode) (p : Params) (ts : List Token) → Every (LostOne f) ts → (st : State) → Gaps f (answer m p ts st)
-answer-gaps f = answer-holds (Gaps f) (LostOne f) tt (λ x. tt) (λ k body b o e h r. tt) (λ b h. (h, refl))
+lost-gaps : (f : File) (a : ℕ) (m : Mode) → LostIn f a → Gaps f a (atLost m a)
+lost-gaps f a plain l = tt
+lost-gaps f a salvage l = (record { behind = le-refl a; is-lost = l; none-before = λ c low high k. absurd (omega arith) }, refl)
 
-step-gaps : (m : Mode) (f : File) (pl : Place) → Gaps f (step m f pl)
+not-lost : (f : File) (a : ℕ) (c : List ℕ) → getD (f .blocks) a (held []) ≡ held c → LostIn f a → ⊥
+not-lost f a c e l = let q = sym e ∙ l .2 in never (cc)
+
+module _ (f : File) (m : Mode) where
+  block-gaps : (a o : ℕ) (x : Block) (xs : List Block) → drop a (f .blocks) ≡ x ∷ xs
+      → ((st : State) → Gaps f (suc a) (firstMet m (f .params) (inBlocks (f .params) (suc a) xs) st))
+      → (st : State) → Gaps f a (firstMet m (f .params) (inBlock (f .params) a o x ++ inBlocks (f .params) (suc a) xs) st)
+  unfolding inBlock firstMet
+  block-gaps a o (lostBlock sz) xs e h st = let (i, q) = drop-inside a (f .blocks) (lostBlock sz) (held []) xs e in lost-gaps f a m (i, sz, q)
+  block-gaps a o (held c) xs e h st =
+      let (i, q) = drop-inside a (f .blocks) (held c) (held []) xs e in
+      pieces-gaps f a m (f .params) a (pieces (f .params) a o (drop o c)) (inBlocks (f .params) (suc a) xs) (pieces-at (f .params) a o (drop o c))
+      (λ st′. gaps-past f a (firstMet m (f .params) (inBlocks (f .params) (suc a) xs) st′) (not-lost f a c q) (h st′)) st
+
+  blocks-gaps : (a : ℕ) (xs : List Block) → drop a (f .blocks) ≡ xs → (st : State) → Gaps f a (firstMet m (f .params) (inBlocks (f .params) a xs) st)
+  unfolding inBlocks firstMet
+  blocks-gaps a [] e st = end-gaps f a st
+  blocks-gaps a (x ∷ xs) e st = block-gaps a 0 x xs e (λ st′. blocks-gaps (suc a) xs (drop-tail a (f .blocks) e) st′) st
+
+  tail-gaps : (a o : ℕ) (xs : List Block) → drop a (f .blocks) ≡ xs → (st : State) → Gaps f a (firstMet m (f .params) (fromTail (f .params) a o xs) st)
+  unfolding firstMet
+  tail-gaps a o [] e st = end-gaps f a st
+  tail-gaps a o (x ∷ xs) e st = block-gaps a o x xs e (λ st′. blocks-gaps (suc a) xs (drop-tail a (f .blocks) e) st′) st
+
+step-gaps : (m : Mode) (f : File) (pl : Place) → Gaps f (pl .block) (step m f pl)
 unfolding step ahead
-step-gaps m f pl = answer-gaps f m (f .params) (fromTail (f .params) (pl .block) (pl .offset) (drop (pl .block) (f .blocks))) (tail-lost f (pl .block) (pl .offset) (drop (pl .block) (f .blocks)) refl) _
+step-gaps m f pl = tail-gaps f m (pl .block) (pl .offset) (drop (pl .block) (f .blocks)) refl (entering m (f .params .format) (pl .offset) (pl .mark))
 
 -- what an answer's place has to be
-abbrev Handed : File → Answer → Type 0
-Handed f (Unanswered r) = Unit {0}
-Handed f (RecordOf n next) = inFile f next ≡ true
-Handed f (Gap next) = (inFile f next ≡ true) × (b : ℕ) × LostIn f b × (next ≡ record { block = suc b; offset = 0; mark = true })
-Handed f (End next) = (inFile f next ≡ true) × (next ≡ endPlace (length (f .blocks)))
+abbrev Handed : File → ℕ → Answer → Type 0
+Handed f a (Unanswered r) = Unit {0}
+Handed f a (RecordOf n next) = inFile f next ≡ true
+Handed f a (Gap next) = (inFile f next ≡ true) × (b : ℕ) × FirstLost f a b × (next ≡ record { block = suc b; offset = 0; mark = true })
+Handed f a (End next) = (inFile f next ≡ true) × (next ≡ endPlace (length (f .blocks)))
 
-met-handed : (f : File) (room : ℕ) (s : Met) → Landed f s → Gaps f s → Handed f (replied f room s .answer)
-met-handed f room (took q pl) l k = go (ltb room (length (q .body)))
+met-handed : (f : File) (a room : ℕ) (s : Met) → Landed f s → Gaps f a s → Handed f a (replied f room s .answer)
+met-handed f a room (took q pl) l k = go (ltb room (length (q .body)))
   where
-    go : (t : Bool) → Handed f (cond t (unanswered (refuse 23 (length (q .body)))) (record { answer = RecordOf (length (q .body)) pl; body = q .body }) .answer)
+    go : (t : Bool) → Handed f a (cond t (unanswered (refuse 23 (length (q .body)))) (record { answer = RecordOf (length (q .body)) pl; body = q .body }) .answer)
     go true = tt
     go false = l
-met-handed f room (gapped b pl) l k = (l, b, k .0, k .1)
-met-handed f room ended l k = (in-start f (length (f .blocks)) (le-refl (length (f .blocks))) false, refl)
-met-handed f room (refused x) l k = tt
+met-handed f a room (gapped b pl) l k = (l, b, k .0, k .1)
+met-handed f a room ended l k = (in-start f (length (f .blocks)) (le-refl (length (f .blocks))) false, refl)
+met-handed f a room (refused x) l k = tt
 
-in-handed : (m : Mode) (f : File) (pl : Place) (room : ℕ) → Handed f (replyIn m f pl room .answer)
+in-handed : (m : Mode) (f : File) (pl : Place) (room : ℕ) → Handed f (pl .block) (replyIn m f pl room .answer)
 unfolding replyIn
 in-handed m f pl room = go (inFile f pl) refl
   where
-    go : (t : Bool) → inFile f pl ≡ t → Handed f (cond t (replied f room (step m f pl)) (unanswered (refuse 19 0)) .answer)
-    go true e = met-handed f room (step m f pl) (step-lands m f pl e) (step-gaps m f pl)
+    go : (t : Bool) → inFile f pl ≡ t → Handed f (pl .block) (cond t (replied f room (step m f pl)) (unanswered (refuse 19 0)) .answer)
+    go true e = met-handed f (pl .block) room (step m f pl) (step-lands m f pl e) (step-gaps m f pl)
     go false e = tt
 
-opened-handed : (f : File) (c : Checked) (y : Reply) → Handed f (y .answer) → Handed f (opened c y .answer)
-opened-handed f Passed y h = h
-opened-handed f (Stopped x) y h = tt
+opened-handed : (f : File) (a : ℕ) (c : Checked) (y : Reply) → Handed f a (y .answer) → Handed f a (opened c y .answer)
+opened-handed f a Passed y h = h
+opened-handed f a (Stopped x) y h = tt
 
 module _ (image : List ℕ) (g : Geometry) (j : judged image ≡ Volume g) (m : Mode) (slot : ℕ) (pl : Place) (out : List ℕ) (next : Place) where
-  handed : (a : Answer) → readAnswer m image slot pl out ≡ a → Handed (fileIn g image (labelAt g image slot)) a
+  handed : (a : Answer) → readAnswer m image slot pl out ≡ a → Handed (fileIn g image (labelAt g image slot)) (pl .block) a
   unfolding reply
   handed a h =
       let f = fileIn g image (labelAt g image slot) in
       let e : readAnswer m image slot pl out ≡ opened (openRefusal g image slot) (replyIn m f pl (length out)) .answer =
       ap (λ (v : Judged). replyOn v m image slot pl (length out) .answer) j in
-      subst (Handed f) (sym e ∙ h) (opened-handed f (openRefusal g image slot) (replyIn m f pl (length out)) (in-handed m f pl (length out)))
+      subst (Handed f (pl .block)) (sym e ∙ h) (opened-handed f (pl .block) (openRefusal g image slot) (replyIn m f pl (length out)) (in-handed m f pl (length out)))
 
   -- A PLACE BEHIND A RECORD IS IN THE FILE
   pub record-next : (k : ℕ) → readAnswer m image slot pl out ≡ RecordOf k next → inFile (fileIn g image (labelAt g image slot)) next ≡ true
   record-next k h = handed (RecordOf k next) h
 
-  -- A PLACE BEHIND A GAP IS IN THE FILE: the start, marked, of the block behind a lost one
+  -- A PLACE BEHIND A GAP IS IN THE FILE: the start, marked, of the block behind the first lost one from the place on
   pub gap-next : readAnswer m image slot pl out ≡ Gap next
       → (inFile (fileIn g image (labelAt g image slot)) next ≡ true)
-      × (b : ℕ) × LostIn (fileIn g image (labelAt g image slot)) b × (next ≡ record { block = suc b; offset = 0; mark = true })
+      × (b : ℕ) × FirstLost (fileIn g image (labelAt g image slot)) (pl .block) b × (next ≡ record { block = suc b; offset = 0; mark = true })
   gap-next h = handed (Gap next) h
 
   -- END'S PLACE IS THE FILE'S END

@@ -7,7 +7,8 @@ use mathlib.Core.List.{List, [], _∷_, _++_, map}
 use lib.ListN.{length, take, drop}
 use Rattle.standard.specs.Layout.{indexSectors, checkFailed, labelAt}
 use Rattle.standard.specs.Addresses.{ordinal}
-use Rattle.standard.specs.Records.{plain, salvage, Record, Item, rec, end, listed}
+use Rattle.standard.specs.Records.{plain, salvage, FileRecord}
+use Rattle.standard.specs.Listed.{Item, rec, end, listed}
 use Rattle.standard.specs.Places.{start}
 use Rattle.standard.specs.Judgement.{judged}
 use Rattle.standard.specs.Files.{extent, goodRecords, recordsToBlock, blockCount, openRefusal, fileIn}
@@ -56,11 +57,11 @@ pub record ReadsWhole (image : List ℕ) (slot : ℕ) (bodies : List (List ℕ))
   pub hears : following readings plain image slot out start ≡ map told bodies ++ (done ∷ [])
 
 -- what the salvage has to give: block by block a gap for a block that is gone, and otherwise the spared records that end in it; then End
-abbrev pub expected : Geometry → (ℕ → Bool) → List ℕ → List ℕ → List Record → List Item
+abbrev pub expected : Geometry → (ℕ → Bool) → List ℕ → List ℕ → List FileRecord → List Item
 expected g hit image h rs = remains (gone g hit image h) 0 (blockCount g image h) rs ++ (end ∷ [])
 
 -- THE PROMISE of salvage, for the file in a slot
-pub record Salvaged (g : Geometry) (hit : ℕ → Bool) (image image′ : List ℕ) (slot : ℕ) (rs : List Record) : Type 0 where
+pub record Salvaged (g : Geometry) (hit : ℕ → Bool) (image image′ : List ℕ) (slot : ℕ) (rs : List FileRecord) : Type 0 where
   -- before the failure its list is these records, each with the blocks in which it begins and ends, and End
   pub before : listed plain (fileIn g image (labelAt g image slot)) ≡ map rec rs ++ (end ∷ [])
   -- after it: the volume and the label as before, the file with the blocks lost that are gone

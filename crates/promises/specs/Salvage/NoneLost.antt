@@ -4,7 +4,8 @@ use Prim.Native.Nat.{ℕ, suc}
 use mathlib.Core.Path.{_≡_, refl, sym, ap, _∙_}
 use mathlib.Core.List.{List, [], _∷_, map}
 use Rattle.standard.specs.Pieces.{held, Token, part, bad, lost, pieces, inBlock, inBlocks}
-use Rattle.standard.specs.Records.{plain, salvage, State, fresh, Move, deliver, carry, breach, meet, Item, rec, readAll, joinMove, join, listed}
+use Rattle.standard.specs.Records.{plain, salvage, State, fresh, Move, deliver, carry, breach, meet}
+use Rattle.standard.specs.Listed.{Item, rec, readAll, joinMove, join, listed}
 use Rattle.standard.specs.Packing.{fileOf}
 use Rattle.standard.specs.Labels.{Params}
 use Rattle.promises.specs.Ground.Lists.{Every, every-append, every-map}

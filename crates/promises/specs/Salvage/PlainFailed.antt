@@ -12,7 +12,8 @@ use native.Mathlib.Nat.{le-refl}
 use borrow.Author.Tests.{lt-ltb, le-ltb}
 use Rattle.standard.specs.Layout.{labelAt}
 use Rattle.standard.specs.Pieces.{Block, lostBlock, held, Token, part, bad, lost, pieces, inBlock, inBlocks}
-use Rattle.standard.specs.Records.{plain, File, Record, State, fresh, Move, deliver, carry, breach, meet, Item, rec, no, end, refuse20, refuse21, readAll, joinMove, join, listed}
+use Rattle.standard.specs.Records.{plain, File, FileRecord, State, fresh, Move, deliver, carry, breach, meet, refuse20, refuse21}
+use Rattle.standard.specs.Listed.{Item, rec, no, end, readAll, joinMove, join, listed}
 use Rattle.standard.specs.Places.{start}
 use Rattle.standard.specs.Judgement.{judged}
 use Rattle.standard.specs.Files.{blockCount, fileIn}
@@ -42,12 +43,12 @@ abbrev pub NoneGone : (ℕ → Bool) → ℕ → Type 0
 NoneGone gone n = (a : ℕ) → a < n → gone a ≡ false
 
 -- the records whose last block is below b, in order. A record begun before b and not ended before b is not among them.
-unfoldable pub endedBefore : ℕ → List Record → List Record
+unfoldable pub endedBefore : ℕ → List FileRecord → List FileRecord
 endedBefore b [] = []
 endedBefore b (r ∷ rs) = cond (ltb (r .lastBlock) b) (r ∷ endedBefore b rs) (endedBefore b rs)
 
 -- 20 "plain reading meets a lost block", block: what is read up to there, and the refusal
-abbrev pub cutAt : ℕ → List Record → List Item
+abbrev pub cutAt : ℕ → List FileRecord → List Item
 cutAt b rs = map rec (endedBefore b rs) ++ (no (refuse20 b) ∷ [])
 
 -- in every case there is a first block that is gone, or none
@@ -64,34 +65,34 @@ first-or-none gone (suc n) =
         inl (λ a l. either (lt-or-le a n) (λ (k : a < n). none a k) (λ (k : n ≤ a). let q : a ≡ n = omega arith in ap gone q ∙ e))
 
 -- ---- the records of the blocks before b, and of those from b on
-ended-in : (b : ℕ) (r : Record) (rs : List Record) → r .lastBlock < b → endedBefore b (r ∷ rs) ≡ r ∷ endedBefore b rs
+ended-in : (b : ℕ) (r : FileRecord) (rs : List FileRecord) → r .lastBlock < b → endedBefore b (r ∷ rs) ≡ r ∷ endedBefore b rs
 unfolding endedBefore
 ended-in b r rs h = rw (lt-ltb (r .lastBlock) b h)
 
-ended-out : (b : ℕ) (r : Record) (rs : List Record) → b ≤ r .lastBlock → endedBefore b (r ∷ rs) ≡ endedBefore b rs
+ended-out : (b : ℕ) (r : FileRecord) (rs : List FileRecord) → b ≤ r .lastBlock → endedBefore b (r ∷ rs) ≡ endedBefore b rs
 unfolding endedBefore
 ended-out b r rs h = rw (le-ltb (r .lastBlock) b h)
 
-none-ended : (b : ℕ) (rs : List Record) → EndFrom b rs → endedBefore b rs ≡ []
+none-ended : (b : ℕ) (rs : List FileRecord) → EndFrom b rs → endedBefore b rs ≡ []
 unfolding endedBefore
 none-ended b [] v = refl
 none-ended b (r ∷ rs) v = ended-out b r rs (v .0) ∙ none-ended b rs (v .1)
 
 -- ---- a block before the first one gone: both readers go through it alike
 module _ (p : Params) (a b : ℕ) (l : a < b) (ms ms′ : List Token)
-    (later : (st : State) (rs : List Record) → Clean (join plain p ms st) rs → join plain p ms′ st ≡ cutAt b rs) where
+    (later : (st : State) (rs : List FileRecord) → Clean (join plain p ms st) rs → join plain p ms′ st ≡ cutAt b rs) where
   move-cut : (ts : List Token) (o : ℕ) (mv : Move)
-      → ((st : State) (rs : List Record) → Clean (join plain p (ts ++ ms) st) rs → join plain p (ts ++ ms′) st ≡ cutAt b rs)
-      → (rs : List Record) → Clean (joinMove mv a o (λ st. join plain p (ts ++ ms) st)) rs → joinMove mv a o (λ st. join plain p (ts ++ ms′) st) ≡ cutAt b rs
+      → ((st : State) (rs : List FileRecord) → Clean (join plain p (ts ++ ms) st) rs → join plain p (ts ++ ms′) st ≡ cutAt b rs)
+      → (rs : List FileRecord) → Clean (joinMove mv a o (λ st. join plain p (ts ++ ms) st)) rs → joinMove mv a o (λ st. join plain p (ts ++ ms′) st) ≡ cutAt b rs
   move-cut ts o (deliver body f) ih rs h =
-      let r : Record = record { body = body; firstBlock = f; lastBlock = a } in
+      let r : FileRecord = record { body = body; firstBlock = f; lastBlock = a } in
       let (rs′, e, c) = clean-rec r (join plain p (ts ++ ms) fresh) rs h in
       ap (λ (is : List Item). rec r ∷ is) (ih fresh rs′ c)
-      ∙ ap (λ (x : List Record). map rec x ++ (no (refuse20 b) ∷ [])) (sym (ap (endedBefore b) e ∙ ended-in b r rs′ l))
+      ∙ ap (λ (x : List FileRecord). map rec x ++ (no (refuse20 b) ∷ [])) (sym (ap (endedBefore b) e ∙ ended-in b r rs′ l))
   move-cut ts o (carry st) ih rs h = ih st rs h
   move-cut ts o breach ih rs h = absurd (clean-no (refuse21 a o) rs h)
 
-  held-cut : (ts : List Token) → Every (At a) ts → (st : State) (rs : List Record) → Clean (join plain p (ts ++ ms) st) rs → join plain p (ts ++ ms′) st ≡ cutAt b rs
+  held-cut : (ts : List Token) → Every (At a) ts → (st : State) (rs : List FileRecord) → Clean (join plain p (ts ++ ms) st) rs → join plain p (ts ++ ms′) st ≡ cutAt b rs
   unfolding join
   held-cut [] v st rs h = later st rs h
   held-cut (part k body b′ o e ∷ ts) v st rs h =
@@ -103,7 +104,7 @@ module _ (p : Params) (a b : ℕ) (l : a < b) (ms ms′ : List Token)
 
 -- ---- the blocks
 module _ (gone : ℕ → Bool) (p : Params) (b : ℕ) (taken : gone b ≡ true) (kept : (a : ℕ) → a < b → gone a ≡ false) where
-  blocks-cut : (xs : List Block) (a : ℕ) → a ≤ b → b < a + length xs → (st : State) (rs : List Record) → Clean (join plain p (inBlocks p a xs) st) rs
+  blocks-cut : (xs : List Block) (a : ℕ) → a ≤ b → b < a + length xs → (st : State) (rs : List FileRecord) → Clean (join plain p (inBlocks p a xs) st) rs
       → join plain p (inBlocks p a (damage gone a xs)) st ≡ cutAt b rs
   unfolding join inBlocks inBlock damage
   blocks-cut [] a lo hi st rs h = absurd (omega arith)
@@ -127,7 +128,7 @@ blocks-kept gone (x ∷ xs) a h = rw (h a (le-refl a) (omega arith), blocks-kept
 
 -- AT THE FILE. A file is read whole, plainly; then blocks are gone, b the first of them. Plain reading gives the records that ended before b, in order,
 -- and then refusal 20 naming b.
-pub plain-cut : (gone : ℕ → Bool) (f : File) (rs : List Record) (b : ℕ) → Clean (readAll plain f) rs → FirstGone gone (length (f .blocks)) b
+pub plain-cut : (gone : ℕ → Bool) (f : File) (rs : List FileRecord) (b : ℕ) → Clean (readAll plain f) rs → FirstGone gone (length (f .blocks)) b
     → listed plain (damaged gone f) ≡ map rec (endedBefore b rs) ++ (no (refuse20 b) ∷ [])
 unfolding listed damaged
 plain-cut gone f rs b h first =
@@ -140,7 +141,7 @@ none-damaged gone f h = rw (blocks-kept gone (f .blocks) 0 (λ b lo hi. h b (ome
 -- ---- AT THE IMAGE
 
 -- room for all records is room for those that ended before b
-fits-cut : (room b : ℕ) (rs : List Record) → Fits room (map rec rs) → Fits room (cutAt b rs)
+fits-cut : (room b : ℕ) (rs : List FileRecord) → Fits room (map rec rs) → Fits room (cutAt b rs)
 unfolding endedBefore
 fits-cut room b [] f = tt
 fits-cut room b (r ∷ rs) f = go (ltb (r .lastBlock) b) (fits-cut room b rs (f .1))
@@ -150,7 +151,7 @@ fits-cut room b (r ∷ rs) f = go (ltb (r .lastBlock) b) (fits-cut room b rs (f 
     go false h = h
 
 -- What plain reading of the file in a slot gives after the failure, of which b is the first block that is gone; rs are its records before.
-pub record ReadUpTo (g : Geometry) (image′ : List ℕ) (slot b : ℕ) (rs : List Record) : Type 0 where
+pub record ReadUpTo (g : Geometry) (image′ : List ℕ) (slot b : ℕ) (rs : List FileRecord) : Type 0 where
   -- its list: the records that ended before b, in order, and then 20
   pub list : listed plain (fileIn g image′ (labelAt g image′ slot)) ≡ map rec (endedBefore b rs) ++ (no (refuse20 b) ∷ [])
   -- n readings from Start, into an output with room for every record, are heard as the first n of the list
@@ -158,16 +159,16 @@ pub record ReadUpTo (g : Geometry) (image′ : List ℕ) (slot b : ℕ) (rs : Li
       → following n plain image′ slot out start ≡ take n (map heard (map rec (endedBefore b rs) ++ (no (refuse20 b) ∷ [])))
 
 -- The same where no block is gone: its records, and End, as before.
-pub record ReadAsBefore (g : Geometry) (image′ : List ℕ) (slot : ℕ) (rs : List Record) : Type 0 where
+pub record ReadAsBefore (g : Geometry) (image′ : List ℕ) (slot : ℕ) (rs : List FileRecord) : Type 0 where
   pub list : listed plain (fileIn g image′ (labelAt g image′ slot)) ≡ map rec rs ++ (end ∷ [])
   pub answers : (n : ℕ) (out : List ℕ) → Fits (length out) (map rec rs)
       → following n plain image′ slot out start ≡ take n (map heard (map rec rs ++ (end ∷ [])))
 
-fits-end : (room : ℕ) (rs : List Record) → Fits room (map rec rs) → Fits room (map rec rs ++ (end ∷ []))
+fits-end : (room : ℕ) (rs : List FileRecord) → Fits room (map rec rs) → Fits room (map rec rs ++ (end ∷ []))
 fits-end room [] f = tt
 fits-end room (r ∷ rs) f = (f .0, fits-end room rs (f .1))
 
-module _ (image image′ : List ℕ) (g : Geometry) (slot : ℕ) (hit : ℕ → Bool) (rs : List Record) (s : Salvaged g hit image image′ slot rs) where
+module _ (image image′ : List ℕ) (g : Geometry) (slot : ℕ) (hit : ℕ → Bool) (rs : List FileRecord) (s : Salvaged g hit image image′ slot rs) where
   abbrev theFile : File
   theFile = fileIn g image (labelAt g image slot)
 
@@ -206,7 +207,7 @@ module _ (image image′ : List ℕ) (g : Geometry) (slot : ℕ) (hit : ℕ → 
 
 -- What a plain reader is promised of the file in a slot after the failure, of which rs is the list before it, each record with the blocks in which it
 -- begins and ends: the records up to the first block that is gone, or all of them. (`first-or-none`: one of the two is the case.)
-abbrev pub PlainlyRead : Geometry → (ℕ → Bool) → List ℕ → List ℕ → ℕ → List Record → Type 0
+abbrev pub PlainlyRead : Geometry → (ℕ → Bool) → List ℕ → List ℕ → ℕ → List FileRecord → Type 0
 PlainlyRead g hit image image′ slot rs =
     (listed plain (fileIn g image (labelAt g image slot)) ≡ map rec rs ++ (end ∷ []))
     × ((b : ℕ) → FirstGone (gone g hit image (labelAt g image slot)) (blockCount g image (labelAt g image slot)) b → ReadUpTo g image′ slot b rs)
@@ -217,7 +218,7 @@ unfoldable pub PlainFailedAnyPromise : Type 0
 PlainFailedAnyPromise = (image image′ : List ℕ) (g : Geometry) (slot : ℕ) (bodies : List (List ℕ)) (hit : ℕ → Bool)
     → judged image ≡ Volume g → ReadsWhole image slot bodies
     → Failed g hit image image′ → Spares g hit image (labelAt g image slot)
-    → (rs : List Record) × (map bodyOf rs ≡ bodies) × PlainlyRead g hit image image′ slot rs
+    → (rs : List FileRecord) × (map bodyOf rs ≡ bodies) × PlainlyRead g hit image image′ slot rs
 
 pub plain-failed-any-promise : PlainFailedAnyPromise
 unfolding PlainFailedAnyPromise SalvageAnyPromise

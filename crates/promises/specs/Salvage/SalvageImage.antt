@@ -8,7 +8,8 @@ use lib.ListN.{length, take, drop}
 use lib.Dec.{eqb}
 use Rattle.standard.specs.Layout.{indexSectors, labelAt}
 use Rattle.standard.specs.Addresses.{ordinal}
-use Rattle.standard.specs.Records.{plain, salvage, Record, Item, rec, gap, end, readAll, listed, records}
+use Rattle.standard.specs.Records.{plain, salvage, FileRecord}
+use Rattle.standard.specs.Listed.{Item, rec, gap, end, readAll, listed}
 use Rattle.standard.specs.Places.{start}
 use Rattle.standard.specs.Judgement.{judged}
 use Rattle.standard.specs.Files.{goodRecords, blockCount, blocksFrom, openRefusal, fileIn, recordsToBlock}
@@ -42,17 +43,17 @@ unfolding fileIn
 file-count g image h = blocks-count g image h (blockCount g image h) (goodRecords g image h)
 
 -- room for all records is room for those that remain
-fits-cond : (room : ℕ) (t : Bool) (r : Record) (is ms : List Item) → length (r .body) ≤ room → Fits room (is ++ ms) → Fits room (cond t (rec r ∷ is) is ++ ms)
+fits-cond : (room : ℕ) (t : Bool) (r : FileRecord) (is ms : List Item) → length (r .body) ≤ room → Fits room (is ++ ms) → Fits room (cond t (rec r ∷ is) is ++ ms)
 fits-cond room true r is ms l h = (l, h)
 fits-cond room false r is ms l h = h
 
-fits-ending : (room : ℕ) (lost : ℕ → Bool) (b : ℕ) (rs : List Record) (ms : List Item) → Fits room (map rec rs) → Fits room ms → Fits room (endingIn lost b rs ++ ms)
+fits-ending : (room : ℕ) (lost : ℕ → Bool) (b : ℕ) (rs : List FileRecord) (ms : List Item) → Fits room (map rec rs) → Fits room ms → Fits room (endingIn lost b rs ++ ms)
 unfolding endingIn
 fits-ending room lost b [] ms f h = h
 fits-ending room lost b (r ∷ rs) ms f h =
     fits-cond room (eqb (r .lastBlock) b && spared lost r) r (endingIn lost b rs) ms (f .0) (fits-ending room lost b rs ms (f .1) h)
 
-fits-block : (room : ℕ) (t : Bool) (lost : ℕ → Bool) (b : ℕ) (rs : List Record) (ms : List Item) → Fits room (map rec rs) → Fits room ms
+fits-block : (room : ℕ) (t : Bool) (lost : ℕ → Bool) (b : ℕ) (rs : List FileRecord) (ms : List Item) → Fits room (map rec rs) → Fits room ms
     → Fits room (cond t (gap b ∷ []) (endingIn lost b rs) ++ ms)
 fits-block room true lost b rs ms f h = h
 fits-block room false lost b rs ms f h = fits-ending room lost b rs ms f h
@@ -61,15 +62,15 @@ assoc : (t : Bool) (xs ys ms ns : List Item) → (cond t xs ys ++ ms) ++ ns ≡ 
 assoc true xs ys ms ns = append-assoc xs ms ns
 assoc false xs ys ms ns = append-assoc ys ms ns
 
-fits-remains : (room : ℕ) (lost : ℕ → Bool) (n b : ℕ) (rs : List Record) → Fits room (map rec rs) → Fits room (remains lost b n rs ++ (end ∷ []))
+fits-remains : (room : ℕ) (lost : ℕ → Bool) (n b : ℕ) (rs : List FileRecord) → Fits room (map rec rs) → Fits room (remains lost b n rs ++ (end ∷ []))
 unfolding remains
 fits-remains room lost zero b rs f = tt
 fits-remains room lost (suc n) b rs f =
     subst (Fits room) (sym (assoc (lost b) (gap b ∷ []) (endingIn lost b rs) (remains lost (suc b) n rs) (end ∷ [])))
     (fits-block room (lost b) lost b rs (remains lost (suc b) n rs ++ (end ∷ [])) f (fits-remains room lost n (suc b) rs f))
 
-module _ (image image′ : List ℕ) (g : Geometry) (slot : ℕ) (hit : ℕ → Bool) (rs : List Record) (j : judged image ≡ Volume g)
-    (ok : openRefusal g image slot ≡ Passed) (clean : Clean (records (fileIn g image (labelAt g image slot))) rs)
+module _ (image image′ : List ℕ) (g : Geometry) (slot : ℕ) (hit : ℕ → Bool) (rs : List FileRecord) (j : judged image ≡ Volume g)
+    (ok : openRefusal g image slot ≡ Passed) (clean : Clean (listed plain (fileIn g image (labelAt g image slot))) rs)
     (fail : Failed g hit image image′) (s : Spares g hit image (labelAt g image slot)) where
   volume-is : judged image′ ≡ Volume g
   volume-is = failed-volume g hit image image′ fail (s .index) j

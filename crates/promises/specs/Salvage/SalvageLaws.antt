@@ -9,7 +9,8 @@ use native.Mathlib.Omega.{arith}
 use native.Mathlib.Nat.{le-refl}
 use borrow.Author.Tests.{ne-eqb, eq-eqb}
 use Rattle.standard.specs.Pieces.{Block, lostBlock, held, Role, whole, first, middle, last, Token, part, bad, lost, pieces, inBlock, inBlocks}
-use Rattle.standard.specs.Records.{plain, salvage, File, Record, State, fresh, marked, within, Move, deliver, carry, breach, over, meet, Item, rec, gap, end, no, refuse20, refuse21, readAll, stateAfterGap, joinMove, joinEnd, join, listed}
+use Rattle.standard.specs.Records.{plain, salvage, File, FileRecord, State, fresh, marked, within, Move, deliver, carry, breach, over, meet, refuse20, refuse21}
+use Rattle.standard.specs.Listed.{Item, rec, gap, end, no, readAll, stateAfterGap, joinMove, joinEnd, join, listed}
 use Rattle.standard.specs.Damage.{damage, damaged, intact, spared, endingIn, remains}
 use Rattle.standard.specs.Labels.{Format, fixed, variable, spanned, Params}
 use Rattle.standard.specs.declared.Refusal.{Refusal}
@@ -19,40 +20,40 @@ use Rattle.promises.specs.Reading.Tokens.{At, pieces-at, From, blocks-fr
 use Rattle.promises.specs.Reading.ReadingLaws.{readAll-listed, Clean}
 
 unfoldable pub SalvageTheorem : Type 0
-SalvageTheorem = (gone : ℕ → Bool) (f : File) (rs : List Record)
+SalvageTheorem = (gone : ℕ → Bool) (f : File) (rs : List FileRecord)
     → Clean (readAll plain f) rs
     → readAll salvage (damaged gone f) ≡ remains gone 0 (length (f .blocks)) rs ++ (end ∷ [])
 
-pub clean-no : (x : Refusal) (rs : List Record) → Clean (no x ∷ []) rs → ⊥
+pub clean-no : (x : Refusal) (rs : List FileRecord) → Clean (no x ∷ []) rs → ⊥
 clean-no x [] h = let z : _≡_ {A = ℕ} 0 1 = cc in omega arith
 clean-no x (r ∷ rs) h = let z : _≡_ {A = ℕ} 0 1 = cc in omega arith
 
-abbrev pub Peeled : Record → List Item → List Record → Type 0
-Peeled r is rs = (rs′ : List Record) × (rs ≡ r ∷ rs′) × Clean is rs′
+abbrev pub Peeled : FileRecord → List Item → List FileRecord → Type 0
+Peeled r is rs = (rs′ : List FileRecord) × (rs ≡ r ∷ rs′) × Clean is rs′
 
-pub clean-rec : (r : Record) (is : List Item) (rs : List Record) → Clean (rec r ∷ is) rs → Peeled r is rs
+pub clean-rec : (r : FileRecord) (is : List Item) (rs : List FileRecord) → Clean (rec r ∷ is) rs → Peeled r is rs
 clean-rec r is [] h = let z : _≡_ {A = ℕ} 0 1 = cc in absurd (omega arith)
 clean-rec r is (r′ ∷ rs) h = (rs, (cc), (cc))
 
-pub clean-end : (st : State) (rs : List Record) → Clean (joinEnd st ∷ []) rs → (rs ≡ []) × (joinEnd st ≡ end)
+pub clean-end : (st : State) (rs : List FileRecord) → Clean (joinEnd st ∷ []) rs → (rs ≡ []) × (joinEnd st ≡ end)
 clean-end st [] h = (refl, (cc))
 clean-end fresh (r ∷ rs) h = let z : _≡_ {A = ℕ} 0 1 = cc in absurd (omega arith)
 clean-end marked (r ∷ rs) h = let z : _≡_ {A = ℕ} 0 1 = cc in absurd (omega arith)
 clean-end (within acc f) (r ∷ rs) h = let z : _≡_ {A = ℕ} 0 1 = cc in absurd (omega arith)
 
 -- the records of tokens from block b on end in that block or behind it
-abbrev pub EndFrom : ℕ → List Record → Type 0
+abbrev pub EndFrom : ℕ → List FileRecord → Type 0
 EndFrom b rs = Every (λ r. b ≤ r .lastBlock) rs
 
-move-ends : (b b′ o : ℕ) (mv : Move) (more : State → List Item) (rs : List Record) → b ≤ b′ → Clean (joinMove mv b′ o more) rs
-    → ((st : State) (rs′ : List Record) → Clean (more st) rs′ → EndFrom b rs′) → EndFrom b rs
+move-ends : (b b′ o : ℕ) (mv : Move) (more : State → List Item) (rs : List FileRecord) → b ≤ b′ → Clean (joinMove mv b′ o more) rs
+    → ((st : State) (rs′ : List FileRecord) → Clean (more st) rs′ → EndFrom b rs′) → EndFrom b rs
 move-ends b b′ o (deliver body f) more rs l h ih =
     let (rs′, e, c) = clean-rec (record { body = body; firstBlock = f; lastBlock = b′ }) (more fresh) rs h in
     rw e (l, ih fresh rs′ c)
 move-ends b b′ o (carry st) more rs l h ih = ih st rs h
 move-ends b b′ o breach more rs l h ih = absurd (clean-no (refuse21 b′ o) rs h)
 
-pub tokens-end : (p : Params) (b : ℕ) (ts : List Token) → Every (From b) ts → (st : State) (rs : List Record) → Clean (join plain p ts st) rs → EndFrom b rs
+pub tokens-end : (p : Params) (b : ℕ) (ts : List Token) → Every (From b) ts → (st : State) (rs : List FileRecord) → Clean (join plain p ts st) rs → EndFrom b rs
 unfolding join
 tokens-end p b [] v st rs h = rw (clean-end st rs h .0) tt
 tokens-end p b (part k body b′ o e ∷ ts) v st rs h =
@@ -63,30 +64,30 @@ tokens-end p b (lost b′ ∷ ts) v st rs h = absurd (clean-no (refuse20 b′) r
 -- ---- the expected list
 
 module _ (gone : ℕ → Bool) where
-  pub endingIn-skip : (b : ℕ) (r : Record) (rs : List Record) → (r .lastBlock ≡ b → ⊥) → endingIn gone b (r ∷ rs) ≡ endingIn gone b rs
+  pub endingIn-skip : (b : ℕ) (r : FileRecord) (rs : List FileRecord) → (r .lastBlock ≡ b → ⊥) → endingIn gone b (r ∷ rs) ≡ endingIn gone b rs
   unfolding endingIn
   endingIn-skip b r rs h = rw (ne-eqb (r .lastBlock) b h)
 
-  pub remains-skip : (n a : ℕ) (r : Record) (rs : List Record) → r .lastBlock < a → remains gone a n (r ∷ rs) ≡ remains gone a n rs
+  pub remains-skip : (n a : ℕ) (r : FileRecord) (rs : List FileRecord) → r .lastBlock < a → remains gone a n (r ∷ rs) ≡ remains gone a n rs
   unfolding remains
   remains-skip zero a r rs h = refl
   remains-skip (suc n) a r rs h = rw (endingIn-skip a r rs (λ e. omega arith), remains-skip n (suc a) r rs (omega arith))
 
   -- what is expected of block b, where it is not gone, and of the n blocks behind it
-  abbrev Due : ℕ → ℕ → List Record → List Item
+  abbrev Due : ℕ → ℕ → List FileRecord → List Item
   Due b n rs = endingIn gone b rs ++ remains gone (suc b) n rs ++ (end ∷ [])
 
-  due-spared : (b n : ℕ) (r : Record) (rs : List Record) → r .lastBlock ≡ b → spared gone r ≡ true → Due b n (r ∷ rs) ≡ rec r ∷ Due b n rs
+  due-spared : (b n : ℕ) (r : FileRecord) (rs : List FileRecord) → r .lastBlock ≡ b → spared gone r ≡ true → Due b n (r ∷ rs) ≡ rec r ∷ Due b n rs
   unfolding endingIn
   due-spared b n r rs e s =
       rw (remains-skip n (suc b) r rs (omega arith), eq-eqb (r .lastBlock) b e, s)
 
-  due-gone : (b n : ℕ) (r : Record) (rs : List Record) → r .lastBlock ≡ b → spared gone r ≡ false → Due b n (r ∷ rs) ≡ Due b n rs
+  due-gone : (b n : ℕ) (r : FileRecord) (rs : List FileRecord) → r .lastBlock ≡ b → spared gone r ≡ false → Due b n (r ∷ rs) ≡ Due b n rs
   unfolding endingIn
   due-gone b n r rs e s = rw (remains-skip n (suc b) r rs (omega arith), eq-eqb (r .lastBlock) b e, s)
 
   -- records of later blocks end in none before
-  none-ending : (b : ℕ) (rs : List Record) → EndFrom (suc b) rs → endingIn gone b rs ≡ []
+  none-ending : (b : ℕ) (rs : List FileRecord) → EndFrom (suc b) rs → endingIn gone b rs ≡ []
   unfolding endingIn
   none-ending b [] v = refl
   none-ending b (r ∷ rs) v = endingIn-skip b r rs (λ q. omega (arith, v .0)) ∙ none-ending b rs (v .1)
@@ -118,9 +119,9 @@ spared-is gone b f n body t g e i =
 module _ (gone : ℕ → Bool) (p : Params) (b n : ℕ) (g : gone b ≡ false) (ms ms′ : List Token) where
   -- what is claimed of a plain reader in state st and a salvager in state st′ that have `ts` and then the blocks behind before them
   Alike : List Token → State → State → Type 0
-  Alike ts st st′ = (rs : List Record) → Clean (join plain p (ts ++ ms) st) rs → join salvage p (ts ++ ms′) st′ ≡ Due gone b n rs
+  Alike ts st st′ = (rs : List FileRecord) → Clean (join plain p (ts ++ ms) st) rs → join salvage p (ts ++ ms′) st′ ≡ Due gone b n rs
 
-  module _ (ts : List Token) (o : ℕ) (rs : List Record) where
+  module _ (ts : List Token) (o : ℕ) (rs : List FileRecord) where
     abbrev Plainly : Move → Type 0
     Plainly mv = Clean (joinMove mv b o (λ st. join plain p (ts ++ ms) st)) rs
 
@@ -135,7 +136,7 @@ module _ (gone : ℕ → Bool) (p : Params) (b n : ℕ) (g : gone b ≡ false) (
     unfolding Alike
     deliver-alike true body f m e i ih h = broke h
     deliver-alike false body f m e i ih h =
-        let r : Record = record { body = body; firstBlock = f; lastBlock = b } in
+        let r : FileRecord = record { body = body; firstBlock = f; lastBlock = b } in
         let (rs′, q, c) = clean-rec r (join plain p (ts ++ ms) fresh) rs h in
         rw (q, due-spared gone b n r rs′ refl (spared-is gone b f m body true g e i)) (ap (λ (is : List Item). rec r ∷ is) (ih rs′ c))
 
@@ -154,7 +155,7 @@ module _ (gone : ℕ → Bool) (p : Params) (b n : ℕ) (g : gone b ≡ false) (
     unfolding Alike
     drop-last true body f m e i ih h = broke h
     drop-last false body f m e i ih h =
-        let r : Record = record { body = body; firstBlock = f; lastBlock = b } in
+        let r : FileRecord = record { body = body; firstBlock = f; lastBlock = b } in
         let (rs′, q, c) = clean-rec r (join plain p (ts ++ ms) fresh) rs h in
         rw (q, due-gone gone b n r rs′ refl (spared-is gone b f m body false g e i)) (ih rs′ c)
 
@@ -219,13 +220,13 @@ meet-begun p b (within acc f) last body h = cond-elim (BegunBy b) (over p (lengt
 
 module _ (gone : ℕ → Bool) (p : Params) (b n : ℕ) (ms : List Token) (got : List Item) where
   Passed : List Token → State → Type 0
-  Passed ts st = (rs : List Record) → Clean (join plain p (ts ++ ms) st) rs → got ≡ remains gone (suc b) n rs ++ (end ∷ [])
+  Passed ts st = (rs : List FileRecord) → Clean (join plain p (ts ++ ms) st) rs → got ≡ remains gone (suc b) n rs ++ (end ∷ [])
 
-  move-passed : (ts : List Token) (o : ℕ) (mv : Move) → BegunBy b mv → ((st : State) → Begun b st → Passed ts st) → (rs : List Record)
+  move-passed : (ts : List Token) (o : ℕ) (mv : Move) → BegunBy b mv → ((st : State) → Begun b st → Passed ts st) → (rs : List FileRecord)
       → Clean (joinMove mv b o (λ st. join plain p (ts ++ ms) st)) rs → got ≡ remains gone (suc b) n rs ++ (end ∷ [])
   unfolding Passed
   move-passed ts o (deliver body f) w ih rs h =
-      let r : Record = record { body = body; firstBlock = f; lastBlock = b } in
+      let r : FileRecord = record { body = body; firstBlock = f; lastBlock = b } in
       let (rs′, q, c) = clean-rec r (join plain p (ts ++ ms) fresh) rs h in
       rw (q, remains-skip gone n (suc b) r rs′ (le-refl (suc b))) (ih fresh tt rs′ c)
   move-passed ts o (carry st) w ih rs h = ih st w rs h
@@ -280,11 +281,11 @@ ended-alike gone b (live f n q i) e = e
 ended-alike gone b (dead f n q i) e = refl
 
 Thus : (ℕ → Bool) → Params → List Block → Type 0
-Thus gone p xs = (b : ℕ) (st st′ : State) → Rel gone b st st′ → (rs : List Record) → Clean (join plain p (inBlocks p b xs) st) rs
+Thus gone p xs = (b : ℕ) (st st′ : State) → Rel gone b st st′ → (rs : List FileRecord) → Clean (join plain p (inBlocks p b xs) st) rs
     → join salvage p (inBlocks p b (damage gone b xs)) st′ ≡ remains gone b (length xs) rs ++ (end ∷ [])
 
 block-thus : (gone : ℕ → Bool) (p : Params) (c : List ℕ) (xs : List Block) → Thus gone p xs → (t : Bool) → (b : ℕ) → gone b ≡ t
-    → (st st′ : State) → Rel gone b st st′ → (rs : List Record) → Clean (join plain p (inBlocks p b (held c ∷ xs)) st) rs
+    → (st st′ : State) → Rel gone b st st′ → (rs : List FileRecord) → Clean (join plain p (inBlocks p b (held c ∷ xs)) st) rs
     → join salvage p (inBlocks p b (damage gone b (held c ∷ xs))) st′ ≡ remains gone b (suc (length xs)) rs ++ (end ∷ [])
 unfolding Thus Alike Passed join damage remains inBlocks inBlock
 block-thus gone p c xs ih true b g st st′ r rs h =

@@ -11,7 +11,8 @@ use native.Mathlib.Omega.{arith}
 use native.Mathlib.Nat.{le-refl}
 use borrow.Author.Tests.{eqb-false, eqb-true}
 use Rattle.standard.specs.Pieces.{Block, lostBlock, held, Token, part, bad, lost, pieces, inBlock, inBlocks}
-use Rattle.standard.specs.Records.{plain, salvage, File, Record, State, fresh, marked, within, Move, deliver, carry, breach, meet, Item, rec, gap, end, no, refuse20, refuse21, readAll, joinMove, join, listed}
+use Rattle.standard.specs.Records.{plain, salvage, File, FileRecord, State, fresh, marked, within, Move, deliver, carry, breach, meet, refuse20, refuse21}
+use Rattle.standard.specs.Listed.{Item, rec, gap, end, no, readAll, joinMove, join, listed}
 use Rattle.standard.specs.Damage.{damaged, intact, spared, endingIn, remains, recordsIn, gapsIn, sparedOf, goneOf}
 use Rattle.standard.specs.Labels.{Params}
 use Rattle.promises.specs.Ground.Basics.{cond-elim}
@@ -23,7 +24,7 @@ use Rattle.promises.specs.Salvage.SalvageLaws.{SalvageTheorem, clean-no,
 recordsIn-append : (is js : List Item) → recordsIn (is ++ js) ≡ recordsIn is ++ recordsIn js
 unfolding recordsIn
 recordsIn-append [] js = refl
-recordsIn-append (rec r ∷ is) js = ap (λ (rs : List Record). r ∷ rs) (recordsIn-append is js)
+recordsIn-append (rec r ∷ is) js = ap (λ (rs : List FileRecord). r ∷ rs) (recordsIn-append is js)
 recordsIn-append (gap b ∷ is) js = recordsIn-append is js
 recordsIn-append (end ∷ is) js = recordsIn-append is js
 recordsIn-append (no x ∷ is) js = recordsIn-append is js
@@ -38,12 +39,12 @@ gapsIn-append (no x ∷ is) js = gapsIn-append is js
 
 -- ---- the gaps
 
-gaps-ending : (gone : ℕ → Bool) (b : ℕ) (rs : List Record) → gapsIn (endingIn gone b rs) ≡ []
+gaps-ending : (gone : ℕ → Bool) (b : ℕ) (rs : List FileRecord) → gapsIn (endingIn gone b rs) ≡ []
 unfolding gapsIn endingIn
 gaps-ending gone b [] = refl
 gaps-ending gone b (r ∷ rs) = cond-elim (λ (is : List Item). gapsIn is ≡ []) (eqb (r .lastBlock) b && spared gone r) (λ _. gaps-ending gone b rs) (λ _. gaps-ending gone b rs)
 
-gaps-remain : (gone : ℕ → Bool) (n b : ℕ) (rs : List Record) → gapsIn (remains gone b n rs) ≡ goneOf gone b n
+gaps-remain : (gone : ℕ → Bool) (n b : ℕ) (rs : List FileRecord) → gapsIn (remains gone b n rs) ≡ goneOf gone b n
 unfolding gapsIn remains goneOf
 gaps-remain gone zero b rs = refl
 gaps-remain gone (suc n) b rs = go (gone b) (gaps-remain gone n (suc b) rs)
@@ -53,7 +54,7 @@ gaps-remain gone (suc n) b rs = go (gone b) (gaps-remain gone n (suc b) rs)
     go true h = ap (λ (bs : List ℕ). b ∷ bs) h
     go false h = gapsIn-append (endingIn gone b rs) (remains gone (suc b) n rs) ∙ rw (gaps-ending gone b rs) h
 
-pub salvage-gaps : (gone : ℕ → Bool) (f : File) (rs : List Record) → Clean (readAll plain f) rs
+pub salvage-gaps : (gone : ℕ → Bool) (f : File) (rs : List FileRecord) → Clean (readAll plain f) rs
     → gapsIn (readAll salvage (damaged gone f)) ≡ goneOf gone 0 (length (f .blocks))
 unfolding SalvageTheorem gapsIn
 salvage-gaps gone f rs h =
@@ -86,11 +87,11 @@ blocks-rising p top a b (lostBlock sz ∷ xs) h l = blocks-rising p top a (suc b
 blocks-rising p top a b (held c ∷ xs) h l =
     rising-append top a b (pieces p b 0 c) (inBlocks p (suc b) xs) (pieces-at p b 0 c) h (omega arith) (blocks-rising p top b (suc b) xs (omega arith) (omega arith))
 
-abbrev Asc : ℕ → ℕ → List Record → Type 0
+abbrev Asc : ℕ → ℕ → List FileRecord → Type 0
 Asc top a [] = Unit {0}
 Asc top a (r ∷ rs) = (a ≤ r .lastBlock) × (r .lastBlock < top) × (r .firstBlock ≤ r .lastBlock) × Asc top (r .lastBlock) rs
 
-asc-mono : (top a b : ℕ) (rs : List Record) → a ≤ b → Asc top b rs → Asc top a rs
+asc-mono : (top a b : ℕ) (rs : List FileRecord) → a ≤ b → Asc top b rs → Asc top a rs
 asc-mono top a b [] h v = tt
 asc-mono top a b (r ∷ rs) h v = (omega (arith, v .0), v .1, v .2, v .3)
 
@@ -99,15 +100,15 @@ begun-mono a b fresh h w = tt
 begun-mono a b marked h w = w
 begun-mono a b (within acc f) h w = omega arith
 
-asc-move : (top a b o : ℕ) (mv : Move) (more : State → List Item) (rs : List Record) → a ≤ b → b < top → BegunBy b mv
-    → ((st : State) (rs′ : List Record) → Begun b st → Clean (more st) rs′ → Asc top b rs′) → Clean (joinMove mv b o more) rs → Asc top a rs
+asc-move : (top a b o : ℕ) (mv : Move) (more : State → List Item) (rs : List FileRecord) → a ≤ b → b < top → BegunBy b mv
+    → ((st : State) (rs′ : List FileRecord) → Begun b st → Clean (more st) rs′ → Asc top b rs′) → Clean (joinMove mv b o more) rs → Asc top a rs
 asc-move top a b o (deliver body f) more rs h l w ih c =
     let (rs′, q, c′) = clean-rec (record { body = body; firstBlock = f; lastBlock = b }) (more fresh) rs c in
     rw q (h, l, w, ih fresh rs′ tt c′)
 asc-move top a b o (carry st) more rs h l w ih c = asc-mono top a b rs h (ih st rs w c)
 asc-move top a b o breach more rs h l w ih c = absurd (clean-no (refuse21 b o) rs c)
 
-asc-of : (p : Params) (top a : ℕ) (ts : List Token) → Rising top a ts → (st : State) (rs : List Record) → Begun a st → Clean (join plain p ts st) rs → Asc top a rs
+asc-of : (p : Params) (top a : ℕ) (ts : List Token) → Rising top a ts → (st : State) (rs : List FileRecord) → Begun a st → Clean (join plain p ts st) rs → Asc top a rs
 unfolding join
 asc-of p top a [] v st rs w c = rw (clean-end st rs c .0) tt
 asc-of p top a (part k body b o e ∷ ts) v st rs w c =
@@ -117,7 +118,7 @@ asc-of p top a (bad b o ∷ ts) v st rs w c = absurd (clean-no (refuse21 b o) rs
 asc-of p top a (lost b ∷ ts) v st rs w c = absurd (clean-no (refuse20 b) rs c)
 
 module _ (gone : ℕ → Bool) where
-  spared-gone : (r : Record) → r .firstBlock ≤ r .lastBlock → gone (r .lastBlock) ≡ true → spared gone r ≡ false
+  spared-gone : (r : FileRecord) → r .firstBlock ≤ r .lastBlock → gone (r .lastBlock) ≡ true → spared gone r ≡ false
   unfolding spared intact
   spared-gone r h g =
       let n : ℕ = r .lastBlock - r .firstBlock in
@@ -125,17 +126,17 @@ module _ (gone : ℕ → Bool) where
       let e′ : r .firstBlock + n ≡ r .lastBlock = omega arith in
       rw (e, e′, g) (and-false (intact gone (r .firstBlock) n))
 
-  asc-ending : (top a b : ℕ) (rs : List Record) → b < a → Asc top a rs → endingIn gone b rs ≡ []
+  asc-ending : (top a b : ℕ) (rs : List FileRecord) → b < a → Asc top a rs → endingIn gone b rs ≡ []
   unfolding endingIn
   asc-ending top a b [] h v = refl
   asc-ending top a b (r ∷ rs) h v =
       endingIn-skip gone b r rs (λ q. omega (arith, v .0)) ∙ asc-ending top (r .lastBlock) b rs (omega (arith, v .0)) (v .3)
 
   -- one block
-  Shows : ℕ → ℕ → List Record → Type 0
+  Shows : ℕ → ℕ → List FileRecord → Type 0
   Shows a n rs = recordsIn (remains gone a n rs) ≡ sparedOf gone rs
 
-  here-gone : (top a n : ℕ) → gone a ≡ true → ((rs : List Record) → Asc top (suc a) rs → Shows (suc a) n rs) → (rs : List Record) → Asc top a rs → Shows (suc a) n rs
+  here-gone : (top a n : ℕ) → gone a ≡ true → ((rs : List FileRecord) → Asc top (suc a) rs → Shows (suc a) n rs) → (rs : List FileRecord) → Asc top a rs → Shows (suc a) n rs
   unfolding Shows sparedOf
   here-gone top a n g ih [] v = ih [] tt
   here-gone top a n g ih (r ∷ rs) v = go (eqb (r .lastBlock) a) refl (λ w. here-gone top a n g ih rs w)
@@ -146,7 +147,7 @@ module _ (gone : ℕ → Bool) where
           rw (remains-skip gone n (suc a) r rs (omega arith), spared-gone r (v .2) (ap gone e ∙ g)) (k (rw e at (v .3)))
       go false q k = let ne : r .lastBlock ≢ a = eqb-false (r .lastBlock) a q in ih (r ∷ rs) (omega (arith, v .0), v .1, v .2, v .3)
 
-  here-held : (top a n : ℕ) → ((rs : List Record) → Asc top (suc a) rs → Shows (suc a) n rs) → (rs : List Record) → Asc top a rs
+  here-held : (top a n : ℕ) → ((rs : List FileRecord) → Asc top (suc a) rs → Shows (suc a) n rs) → (rs : List FileRecord) → Asc top a rs
       → recordsIn (endingIn gone a rs ++ remains gone (suc a) n rs) ≡ sparedOf gone rs
   unfolding Shows sparedOf endingIn recordsIn
   here-held top a n ih [] v = ih [] tt
@@ -156,7 +157,7 @@ module _ (gone : ℕ → Bool) where
           → recordsIn (endingIn gone a (r ∷ rs) ++ remains gone (suc a) n (r ∷ rs)) ≡ sparedOf gone (r ∷ rs)
       go true true q u k =
           let e : r .lastBlock ≡ a = eqb-true (r .lastBlock) a q in
-          rw (remains-skip gone n (suc a) r rs (omega arith), q, u) (ap (λ (l : List Record). r ∷ l) (k (rw e at (v .3))))
+          rw (remains-skip gone n (suc a) r rs (omega arith), q, u) (ap (λ (l : List FileRecord). r ∷ l) (k (rw e at (v .3))))
       go true false q u k =
           let e : r .lastBlock ≡ a = eqb-true (r .lastBlock) a q in
           rw (remains-skip gone n (suc a) r rs (omega arith), q, u) (k (rw e at (v .3)))
@@ -165,17 +166,17 @@ module _ (gone : ℕ → Bool) where
           let w : Asc top (suc a) (r ∷ rs) = (omega (arith, v .0), v .1, v .2, v .3) in
           rw (asc-ending top (suc a) a (r ∷ rs) (le-refl (suc a)) w) (ih (r ∷ rs) w)
 
-  records-remain : (n top a : ℕ) (rs : List Record) → top ≡ a + n → Asc top a rs → Shows a n rs
+  records-remain : (n top a : ℕ) (rs : List FileRecord) → top ≡ a + n → Asc top a rs → Shows a n rs
   unfolding Shows remains recordsIn sparedOf
   records-remain zero top a [] q v = refl
   records-remain zero top a (r ∷ rs) q v = absurd (omega (arith, v .0, v .1))
   records-remain (suc n) top a rs q v = go (gone a) refl (λ rs′ w. records-remain n top (suc a) rs′ (omega arith) w)
     where
-      go : (t : Bool) → gone a ≡ t → ((rs′ : List Record) → Asc top (suc a) rs′ → Shows (suc a) n rs′) → Shows a (suc n) rs
+      go : (t : Bool) → gone a ≡ t → ((rs′ : List FileRecord) → Asc top (suc a) rs′ → Shows (suc a) n rs′) → Shows a (suc n) rs
       go true e ih = rw e (here-gone top a n e ih rs v)
       go false e ih = rw e (here-held top a n ih rs v)
 
-pub salvage-records : (gone : ℕ → Bool) (f : File) (rs : List Record) → Clean (readAll plain f) rs
+pub salvage-records : (gone : ℕ → Bool) (f : File) (rs : List FileRecord) → Clean (readAll plain f) rs
     → recordsIn (readAll salvage (damaged gone f)) ≡ sparedOf gone rs
 unfolding SalvageTheorem recordsIn listed Shows
 salvage-records gone f rs h =

@@ -8,7 +8,8 @@ use mathlib.Core.List.{List, [], _∷_, _++_, map, List·Memᴰ, List·Memᴰ·t
 use lib.ListN.{length, take}
 use lib.Dec.{ltb, eqb}
 use Rattle.standard.specs.Layout.{labelAt}
-use Rattle.standard.specs.Records.{salvage, Record, Item, rec, gap, end, no}
+use Rattle.standard.specs.Records.{salvage, FileRecord}
+use Rattle.standard.specs.Listed.{Item, rec, gap, end, no}
 use Rattle.standard.specs.Places.{start}
 use Rattle.standard.specs.Judgement.{judged}
 use Rattle.standard.specs.Damage.{remains, spared, endingIn}
@@ -34,7 +35,7 @@ take-mem (suc n) (y ∷ xs) {x} m =
     either (List·Memᴰ·cases-cons m) (λ (e : x ≡ y). List·Memᴰ·head e) (λ (k : List·Memᴰ x (take n xs)). List·Memᴰ·tail (take-mem n xs k))
 
 -- a record among those that end in a block is one of the records
-ending-mem : (gone : ℕ → Bool) (b : ℕ) (rs : List Record) (r : Record) → List·Memᴰ (rec r) (endingIn gone b rs) → List·Memᴰ r rs
+ending-mem : (gone : ℕ → Bool) (b : ℕ) (rs : List FileRecord) (r : FileRecord) → List·Memᴰ (rec r) (endingIn gone b rs) → List·Memᴰ r rs
 unfolding endingIn
 ending-mem gone b [] r m = absurd (List·Memᴰ·not-nil m)
 ending-mem gone b (q ∷ rs) r m = go (eqb (q .lastBlock) b && spared gone q) m (λ k. ending-mem gone b rs r k)
@@ -47,7 +48,7 @@ ending-mem gone b (q ∷ rs) r m = go (eqb (q .lastBlock) b && spared gone q) m 
         (λ (l : List·Memᴰ (rec r) (endingIn gone b rs)). List·Memᴰ·tail (ih l))
     go false k ih = List·Memᴰ·tail (ih k)
 
-remains-mem : (gone : ℕ → Bool) (b n : ℕ) (rs : List Record) (r : Record) → List·Memᴰ (rec r) (remains gone b n rs) → List·Memᴰ r rs
+remains-mem : (gone : ℕ → Bool) (b n : ℕ) (rs : List FileRecord) (r : FileRecord) → List·Memᴰ (rec r) (remains gone b n rs) → List·Memᴰ r rs
 unfolding remains
 remains-mem gone b zero rs r m = absurd (List·Memᴰ·not-nil m)
 remains-mem gone b (suc n) rs r m =
@@ -60,19 +61,19 @@ remains-mem gone b (suc n) rs r m =
     go false k = ending-mem gone b rs r k
 
 -- what is heard as a record's bytes is a record of the list, whatever the room
-told-long : (room : ℕ) (body : List ℕ) (r : Record) (hs : List Heard) (t : Bool) {A : Type 0}
+told-long : (room : ℕ) (body : List ℕ) (r : FileRecord) (hs : List Heard) (t : Bool) {A : Type 0}
     → List·Memᴰ (told body) (tooLong t (r .body) hs) → (body ≡ r .body → A) → (List·Memᴰ (told body) hs → A) → A
 told-long room body r hs true m f g = let e = List·Memᴰ·eq-of-singleton m in never (cc)
 told-long room body r hs false m f g =
     either (List·Memᴰ·cases-cons m) (λ (e : told body ≡ told (r .body)). f (let same : body ≡ r .body = cc in same)) (λ (k : List·Memᴰ (told body) hs). g k)
 
 abbrev Told : List ℕ → List Item → Type 0
-Told body is = (r : Record) × List·Memᴰ (rec r) is × (body ≡ r .body)
+Told body is = (r : FileRecord) × List·Memᴰ (rec r) is × (body ≡ r .body)
 
 told-tail : (body : List ℕ) (i : Item) (is : List Item) → Told body is → Told body (i ∷ is)
 told-tail body i is t = (t .0, List·Memᴰ·tail (t .1), t .2)
 
-heard-in-mem : (room : ℕ) (body : List ℕ) (is : List Item) → List·Memᴰ (told body) (heardIn room is) → (r : Record) × List·Memᴰ (rec r) is × (body ≡ r .body)
+heard-in-mem : (room : ℕ) (body : List ℕ) (is : List Item) → List·Memᴰ (told body) (heardIn room is) → (r : FileRecord) × List·Memᴰ (rec r) is × (body ≡ r .body)
 unfolding heardIn
 heard-in-mem room body [] m = absurd (List·Memᴰ·not-nil m)
 heard-in-mem room body (rec q ∷ is) m =
@@ -89,7 +90,7 @@ heard-in-mem room body (no x ∷ is) m =
     either (List·Memᴰ·cases-cons m) (λ (e : told body ≡ refused x). never (cc))
     (λ (k : List·Memᴰ (told body) (heardIn room is)). told-tail body (no x) is (heard-in-mem room body is k))
 
-remains-heard : (lost : ℕ → Bool) (count n room : ℕ) (rs : List Record) (body : List ℕ)
+remains-heard : (lost : ℕ → Bool) (count n room : ℕ) (rs : List FileRecord) (body : List ℕ)
     → List·Memᴰ (told body) (heardIn room (take n (remains lost 0 count rs ++ (end ∷ [])))) → List·Memᴰ body (map bodyOf rs)
 remains-heard lost count n room rs body m =
     let t = heard-in-mem room body (take n (remains lost 0 count rs ++ (end ∷ []))) m in
@@ -98,7 +99,7 @@ remains-heard lost count n room rs body m =
     (λ (k : List·Memᴰ (rec (t .0)) (end ∷ [])). let e = List·Memᴰ·eq-of-singleton k in never (cc))
 
 -- a salvage as promised is heard as its list, up to the first record that is too long for the output
-pub salvaged-heard : (image image′ : List ℕ) (g : Geometry) (slot : ℕ) (hit : ℕ → Bool) (rs : List Record) → Salvaged g hit image image′ slot rs
+pub salvaged-heard : (image image′ : List ℕ) (g : Geometry) (slot : ℕ) (hit : ℕ → Bool) (rs : List FileRecord) → Salvaged g hit image image′ slot rs
     → (n : ℕ) (out : List ℕ) → following n salvage image′ slot out start ≡ heardIn (length out) (take n (expected g hit image (labelAt g image slot) rs))
 salvaged-heard image image′ g slot hit rs s n out =
     following-any image′ g slot (s .volume) (s .opens) salvage n out ∙ ap (λ (is : List Item). heardIn (length out) (take n is)) (s .list)
@@ -108,7 +109,7 @@ unfoldable pub SalvageHeardPromise : Type 0
 SalvageHeardPromise = (image image′ : List ℕ) (g : Geometry) (slot : ℕ) (bodies : List (List ℕ)) (hit : ℕ → Bool)
     → judged image ≡ Volume g → ReadsWhole image slot bodies
     → Failed g hit image image′ → Spares g hit image (labelAt g image slot)
-    → (rs : List Record) × (map bodyOf rs ≡ bodies) × Salvaged g hit image image′ slot rs
+    → (rs : List FileRecord) × (map bodyOf rs ≡ bodies) × Salvaged g hit image image′ slot rs
     × ((n : ℕ) (out : List ℕ) → following n salvage image′ slot out start ≡ heardIn (length out) (take n (expected g hit image (labelAt g image slot) rs)))
 
 pub salvage-heard-promise : SalvageHeardPromise
@@ -139,7 +140,7 @@ WriteFailSalvagePromise = (image image′ : List ℕ) (g : Geometry) (slot : ℕ
     → judged image ≡ Volume g → writeRefusal g image slot bodies lengths ≡ Passed
     → Failed g hit (imageAfter image slot bodies lengths) image′
     → OfBlocks g hit (imageAfter image slot bodies lengths) (labelAt g (imageAfter image slot bodies lengths) slot)
-    → (rs : List Record) × (map bodyOf rs ≡ parted bodies lengths) × Salvaged g hit (imageAfter image slot bodies lengths) image′ slot rs
+    → (rs : List FileRecord) × (map bodyOf rs ≡ parted bodies lengths) × Salvaged g hit (imageAfter image slot bodies lengths) image′ slot rs
     × ((n : ℕ) (out : List ℕ) → following n salvage image′ slot out start
     ≡ heardIn (length out) (take n (expected g hit (imageAfter image slot bodies lengths) (labelAt g (imageAfter image slot bodies lengths) slot) rs)))
 

@@ -7,7 +7,7 @@ use lib.ListN.{take}
 use native.Mathlib.Omega.{arith}
 use borrow.Author.Tests.{ltb-true, lt-ltb}
 use Rattle.standard.specs.Free.{inExtent, taken, freeFrom, freeCount}
-use Rattle.standard.specs.Layout.{indexSectors, bodySize, kindOffset, slotCount}
+use Rattle.standard.specs.Layout.{indexSectors, bodySize, kindOffset, slotCount, labelAt}
 use Rattle.standard.specs.Addresses.{addressCount}
 use Rattle.standard.specs.Slots.{hasLabel}
 use Rattle.standard.specs.Judgement.{judged}
@@ -42,7 +42,7 @@ module _ (g : Geometry) (image image′ : List ℕ) (v : SameViews g image image
   unfolding isNamed
   named-same name slot l = let x = v slot l in rw (x .is-label, x .level-known, x .name)
 
-  found-same : (name : List ℕ) (left slot : ℕ) → slot + left ≤ slotCount g + 1 → foundFrom g image name left slot ≡ foundFrom g image′ name left slot
+  pub found-same : (name : List ℕ) (left slot : ℕ) → slot + left ≤ slotCount g + 1 → foundFrom g image name left slot ≡ foundFrom g image′ name left slot
   unfolding foundFrom
   found-same name zero slot l = refl
   found-same name (suc left) slot l = rw (named-same name slot (omega arith), found-same name left (slot + 1) (omega arith))
@@ -50,12 +50,12 @@ module _ (g : Geometry) (image image′ : List ℕ) (v : SameViews g image image
   slot-same : (slot : ℕ) → foundSlot g image slot ≡ foundSlot g image′ slot
   slot-same slot = rw (same-has-label g image image′ v slot)
 
-  taken-same : (i n : ℕ) → n ≤ slotCount g → taken g image i n ≡ taken g image′ i n
+  pub taken-same : (i n : ℕ) → n ≤ slotCount g → taken g image i n ≡ taken g image′ i n
   unfolding taken inExtent
   taken-same i zero l = refl
   taken-same i (suc n) l = let x = v (suc n) l in rw (x .is-label, x .start, x .end, taken-same i n (omega arith))
 
-  free-same : (left i : ℕ) → freeFrom g image left i ≡ freeFrom g image′ left i
+  pub free-same : (left i : ℕ) → freeFrom g image left i ≡ freeFrom g image′ left i
   unfolding freeFrom
   free-same zero i = refl
   free-same (suc left) i = rw (taken-same i (slotCount g) (omega arith), free-same left (i + 1))
@@ -89,6 +89,26 @@ module _ (g : Geometry) (image : List ℕ) where
   slot-within : (slot : ℕ) → Within (foundSlot g image slot)
   slot-within slot = cond-elim Within (hasLabel g image slot) (λ e. has-slot g image slot e .1) (λ _. tt)
 
+-- two accepted images whose labels, and with them their views, are the same: the labels handed out
+module _ (g : Geometry) (image image′ : List ℕ) (v : SameViews g image image′)
+    (labels : (slot : ℕ) → slot ≤ slotCount g → labelAt g image slot ≡ labelAt g image′ slot) (j : judged image ≡ Volume g) (j′ : judged image′ ≡ Volume g) where
+  part-alike : (f : Found) → Within g image f → labelPart g image f ≡ labelPart g image′ f
+  part-alike (Unfound r) l = refl
+  part-alike (At slot offset) l = labels slot l
+
+  pub labels-named : (name : List ℕ) → labelNamed image name ≡ labelNamed image′ name
+  unfolding labelNamed
+  labels-named name =
+      rw (j, j′)
+      (part-alike (foundFrom g image name (slotCount g) 1) (found-within g image name (slotCount g) 1 (omega arith))
+      ∙ ap (labelPart g image′) (found-same g image image′ v name (slotCount g) 1 (omega arith)))
+
+  pub labels-in : (slot : ℕ) → labelInSlot image slot ≡ labelInSlot image′ slot
+  unfolding labelInSlot
+  labels-in slot =
+      rw (j, j′)
+      (part-alike (foundSlot g image slot) (slot-within g image slot) ∙ ap (labelPart g image′) (slot-same g image image′ v slot))
+
 -- two accepted images equal in the index cylinder
 module _ (image image′ : List ℕ) (g g′ : Geometry) (j : judged image ≡ Volume g) (j′ : judged image′ ≡ Volume g′)
     (agree : AgreeOn g (inIndex g) image image′) where
@@ -98,9 +118,8 @@ module _ (image image′ : List ℕ) (g g′ : Geometry) (j : judged image ≡ V
   views : SameViews g image image′
   views = index-views g image image′ (numbers-of image g j) agree
 
-  part-alike : (f : Found) → Within g image f → labelPart g image f ≡ labelPart g image′ f
-  part-alike (Unfound r) l = refl
-  part-alike (At slot offset) l = index-label g image image′ (numbers-of image g j) agree slot l
+  same-labels : (slot : ℕ) → slot ≤ slotCount g → labelAt g image slot ≡ labelAt g image′ slot
+  same-labels = index-label g image image′ (numbers-of image g j) agree
 
   pub index-found : (name : List ℕ) → found image name ≡ found image′ name
   index-found = views-found g image image′ views j judged-same
@@ -109,17 +128,10 @@ module _ (image image′ : List ℕ) (g g′ : Geometry) (j : judged image ≡ V
   index-found-at = views-found-at g image image′ views j judged-same
 
   pub index-label-named : (name : List ℕ) → labelNamed image name ≡ labelNamed image′ name
-  unfolding labelNamed
-  index-label-named name =
-      rw (j, judged-same)
-      (part-alike (foundFrom g image name (slotCount g) 1) (found-within g image name (slotCount g) 1 (omega arith))
-      ∙ ap (labelPart g image′) (found-same g image image′ views name (slotCount g) 1 (omega arith)))
+  index-label-named = labels-named g image image′ views same-labels j judged-same
 
   pub index-label-in : (slot : ℕ) → labelInSlot image slot ≡ labelInSlot image′ slot
-  unfolding labelInSlot
-  index-label-in slot =
-      rw (j, judged-same)
-      (part-alike (foundSlot g image slot) (slot-within g image slot) ∙ ap (labelPart g image′) (slot-same g image image′ views slot))
+  index-label-in = labels-in g image image′ views same-labels j judged-same
 
   pub index-free : freeCount image ≡ freeCount image′
   index-free = views-free g image image′ views j judged-same

@@ -1,6 +1,6 @@
 -- HOW MANY BLOCKS A WRITE NEEDS, AND U: counted from the lengths alone, and how large the number of blocks can be.
 -- Assumes nothing.
-use Prim.Native.Nat.{ℕ, zero, suc, _+_, _-_, _<_, _≤_}
+use Prim.Native.Nat.{ℕ, zero, suc, _+_, _-_, _*_, _/_, _<_, _≤_}
 use mathlib.Core.Path.{_≡_, refl, sym, ap, subst, _∙_}
 use mathlib.Core.Bool.{Bool, true, false, cond, not, _&&_}
 use mathlib.Core.List.{List, [], _∷_, _++_, map, map-id}
@@ -9,22 +9,19 @@ use lib.Seq.{drop-cons}
 use lib.Dec.{leb, ltb, eqb}
 use native.Mathlib.Omega.{arith}
 use native.Mathlib.Numerals.{add-one}
-use native.Mathlib.Nat.{le-refl, not-suc-le-zero}
+use native.Mathlib.Nat.{le-refl, not-suc-le-zero, div-add-mod'}
 use borrow.Author.Tests.{leb-true, leb-false, ltb-false, le-leb, lt-leb, eqb-true, not-false}
 use Rattle.standard.specs.Refusals.{refuse}
-use Rattle.standard.specs.Layout.{labelAt}
-use Rattle.standard.specs.Labels.{knownLevel, formatOf, blockLength, recordLength, isBlocked, Format, fixed, variable, spanned}
-use Rattle.standard.specs.Slots.{hasLabel}
-use Rattle.standard.specs.Judgement.{judged}
-use Rattle.standard.specs.Packing.{Laid, then, thenNext, fill, recordV, placeIf, lay, layOne, spreadIf, spread, least, startIf, layS, Packing, packIn, pack}
+use Rattle.standard.specs.Labels.{formatOf, blockLength, recordLength, isBlocked, Format, fixed, variable, spanned}
+use Rattle.standard.specs.Packing.{Packing, unusedIn, fill, layF, recordV, layOne, Laid, thenHere, thenNext, spreadIf, spread, least, startIf, layS, packIn, pack}
 use Rattle.standard.specs.Writing.{total, parted, wrongIn, wrongLength, lengthsFrom, packing, needed}
 use Rattle.standard.specs.declared.Geometry.{Geometry}
 use Rattle.standard.specs.declared.Checked.the-variants.{Passed}
-use Rattle.standard.specs.declared.Judged.the-variants.{Volume}
-use Rattle.promises.specs.Ground.Basics.{or-r}
+use Rattle.promises.specs.Ground.Basics.{never, or-r}
 use Rattle.promises.specs.Volumes.Judging.{stop-first, stop-rest}
-use Rattle.promises.specs.Volumes.LabelRules.{Rules, label-rules, Shape, shape, fixed-low, fixed-high, variable-high, spanned-low, isF, isV, isS}
-use Rattle.promises.specs.Writing.WritingLaws.{recordV-length}
+use Rattle.promises.specs.Volumes.LabelRules.{Rules, Shape, shape, fixed-low, fixed-high, fixed-whole, variable-high, spanned-low, isF, isV, isS}
+use Rattle.promises.specs.Writing.Laying.{placeIf, lay, laid-F, laid-V}
+use Rattle.promises.specs.Writing.WritingLaws.{recordV-length, within-V}
 use Rattle.promises.specs.Writing.PackedRecords.{six-fits}
 use Rattle.promises.specs.Writing.WritingPromises.{parted-lengths}
 use Rattle.promises.specs.Ground.Lists.{Every}
@@ -170,7 +167,7 @@ lay-level f bl cw B p enc e (x ∷ xs) room blocks =
         ≡ levelFrom f bl B (cond t (levelOf (room - length (enc x)) blocks) (levelOf (B - length (enc x)) (suc blocks)) .room)
         (cond t (levelOf (room - length (enc x)) blocks) (levelOf (B - length (enc x)) (suc blocks)) .blocks) (map length xs)
     go true ih = ih (room - length (enc x)) blocks
-    go false ih = next-laid blocks (fill room) (then (enc x) (lay B (B - length (enc x)) (map enc xs))) ∙ ih (B - length (enc x)) (suc blocks)
+    go false ih = next-laid blocks (fill room) (thenHere (enc x) (lay B (B - length (enc x)) (map enc xs))) ∙ ih (B - length (enc x)) (suc blocks)
 
 -- V unblocked
 one-level : (B : ℕ) (xs : List (List ℕ)) (blocks : ℕ) → levelOf 0 (blocks + length (layOne B (map recordV xs))) ≡ levelFrom variable false B 0 blocks (map length xs)
@@ -252,6 +249,39 @@ each-fits g h r i (n ∷ lengths) p = (
   each-fits g h r (i + 1) lengths (stop-rest (wrongLength h n) (refuse 26 i) (lengthsFrom h (i + 1) lengths) p),
 )
 
+-- F: every record has R bytes, "a divisor of B"
+pub record Tiled (R B : ℕ) (lengths : List ℕ) : Type 0 where
+  pub some : 1 ≤ R
+  pub high : R ≤ B
+  pub whole : B ≡ B / R * R
+  pub each : Every (λ n. n ≡ R) lengths
+
+lengths-R : (h : List ℕ) → formatOf h ≡ fixed → (i : ℕ) (lengths : List ℕ) → lengthsFrom h i lengths ≡ Passed → Every (λ n. n ≡ recordLength h) lengths
+unfolding lengthsFrom wrongLength
+lengths-R h f i [] p = tt
+lengths-R h f i (n ∷ lengths) p =
+    let q : wrongIn fixed (blockLength h) (recordLength h) n ≡ false = rw f at (stop-first (wrongLength h n) _ (lengthsFrom h (i + 1) lengths) p) in
+    (eqb-true n (recordLength h) (not-false _ q), lengths-R h f (i + 1) lengths (stop-rest (wrongLength h n) (refuse 26 i) (lengthsFrom h (i + 1) lengths) p))
+
+pub tiled : (g : Geometry) (h lengths : List ℕ) → Rules g h → lengthsFrom h 0 lengths ≡ Passed → formatOf h ≡ fixed
+    → Tiled (recordLength h) (blockLength h) lengths
+tiled g h lengths r p e = go (shape h (r .r40))
+  where
+    go : Shape h → Tiled (recordLength h) (blockLength h) lengths
+    go (isF f t) =
+        record {
+          some = fixed-low g h r t;
+          high = fixed-high g h r t;
+          whole = omega (arith, div-add-mod' (blockLength h) (recordLength h), fixed-whole g h r t);
+          each = lengths-R h f 0 lengths p;
+        }
+    go (isV f t) = never (cc)
+    go (isS f t) = never (cc)
+
+pub every-lengths : (C : ℕ → Type 0) (xs : List (List ℕ)) → Every C (map length xs) → Every (λ x. C (length x)) xs
+every-lengths C [] h = tt
+every-lengths C (x ∷ xs) h = (h .0, every-lengths C xs (h .1))
+
 -- ---- the first record begins block 0: from no block and no room, or from all of block 0
 begin-whole : (B n : ℕ) → 1 ≤ n → n ≤ B → placedWhole B 0 0 n ≡ placedWhole B B 1 n
 begin-whole B n lo hi = rw (lt-leb n 0 lo, le-leb n B hi)
@@ -269,25 +299,29 @@ packedLevel p = levelOf (p .U) (length (p .contents))
 first-laid : (l : Laid) → levelOf (l .unused) (suc (length (l .later))) ≡ laidLevel 1 l
 first-laid l = let e : suc (length (l .later)) ≡ 1 + length (l .later) = omega arith in rw e
 
-pack-level : (f : Format) (bl : Bool) (B : ℕ) (xs : List (List ℕ)) → EachFits f B (map length xs) → packedLevel (packIn f bl B xs) ≡ levelFrom f bl B 0 0 (map length xs)
-unfolding levelFrom
-pack-level fixed bl B [] h = refl
-pack-level fixed bl B (x ∷ xs) h =
-    first-laid (lay B B (x ∷ xs))
+pack-level : (f : Format) (R : ℕ) (bl : Bool) (B : ℕ) (xs : List (List ℕ)) → EachFits f B (map length xs) → (f ≡ fixed → Tiled R B (map length xs))
+    → packedLevel (packIn f R bl B xs) ≡ levelFrom f bl B 0 0 (map length xs)
+unfolding levelFrom layF unusedIn
+pack-level fixed R bl B [] h t = refl
+pack-level fixed R bl B (x ∷ xs) h t =
+    let d = t refl in
+    ap packedLevel (laid-F R bl B (d .some) (d .high) (d .whole) x xs (every-lengths (λ n. n ≡ R) (x ∷ xs) (d .each)))
+    ∙ first-laid (lay B B (x ∷ xs))
     ∙ ap (λ (l : List (List ℕ)). laidLevel 1 (lay B B l)) (sym (map-id (x ∷ xs)))
     ∙ lay-level fixed bl 0 B (λ room blocks n. ap (placedWhole B room blocks) (omega arith)) (λ (y : List ℕ). y) (λ y. omega arith) (x ∷ xs) B 1
     ∙ begun-as fixed bl B _ _ (map length xs) (begin-whole B (length x) (h .0 .0) (h .0 .1))
-pack-level variable true B [] h = refl
-pack-level variable true B (x ∷ xs) h =
-    first-laid (lay B B (map recordV (x ∷ xs)))
+pack-level variable R true B [] h t = refl
+pack-level variable R true B (x ∷ xs) h t =
+    ap packedLevel (laid-V R B x xs (within-V B B (le-refl B) (x ∷ xs) (every-lengths (λ n. 4 + n ≤ B) (x ∷ xs) h)))
+    ∙ first-laid (lay B B (map recordV (x ∷ xs)))
     ∙ lay-level variable true 4 B (λ room blocks n. refl) recordV recordV-length (x ∷ xs) B 1
     ∙ begun-as variable true B _ _ (map length xs) (begin-whole B (4 + length x) (omega arith) (h .0))
-pack-level variable false B xs h =
+pack-level variable R false B xs h t =
     let n = length (layOne B (map recordV xs)) in
     let e : n ≡ 0 + n = omega arith in
     ap (levelOf 0) e ∙ one-level B xs 0
-pack-level spanned bl B [] h = refl
-pack-level spanned bl B (x ∷ xs) h =
+pack-level spanned R bl B [] h t = refl
+pack-level spanned R bl B (x ∷ xs) h t =
     first-laid (layS B B (x ∷ xs)) ∙ layS-level bl B (x ∷ xs) B 1 ∙ begun-as spanned bl B _ _ (map length xs) (begin-spanned B (length x) (h .0))
 
 -- ---- how large it can be
@@ -388,7 +422,9 @@ module _ (g : Geometry) (h bodies lengths : List ℕ) (r : Rules g h) (sum : tot
   unfolding packing pack
   packing-level =
       let e = parted-lengths lengths bodies sum in
-      pack-level (formatOf h) (isBlocked h) (blockLength h) (parted bodies lengths) (subst (EachFits (formatOf h) (blockLength h)) (sym e) (each-fits g h r 0 lengths fits))
+      pack-level (formatOf h) (recordLength h) (isBlocked h) (blockLength h) (parted bodies lengths)
+      (subst (EachFits (formatOf h) (blockLength h)) (sym e) (each-fits g h r 0 lengths fits))
+      (λ f. subst (Tiled (recordLength h) (blockLength h)) (sym e) (tiled g h lengths r fits f))
       ∙ ap (levelFrom (formatOf h) (isBlocked h) (blockLength h) 0 0) e
 
   -- U IS THE ROOM THAT THE LIST LEAVES

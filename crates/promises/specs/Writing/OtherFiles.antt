@@ -3,6 +3,7 @@
 use Prim.Native.Nat.{ℕ, _*_}
 use mathlib.Core.Path.{_≡_, ap}
 use mathlib.Core.Bool.{true}
+use mathlib.Core.Logic.{inl}
 use mathlib.Core.List.{List}
 use native.Mathlib.Omega.{arith}
 use Rattle.standard.specs.Layout.{slotOrdinal, labelAt}
@@ -23,7 +24,7 @@ use Rattle.promises.specs.Volumes.AcceptedLaws.{has-slot, label-in-range
 use Rattle.promises.specs.Volumes.VolumeNumbers.{numbers-of, slot-in-index}
 use Rattle.promises.specs.Volumes.IndexLaws.{same-label, same-has-label}
 use Rattle.promises.specs.Extents.ExtentAddresses.{Between, rising-every, extent-rising, good-rising}
-use Rattle.promises.specs.Extents.ExtentReads.{SameSector}
+use Rattle.promises.specs.Extents.ExtentReads.{SameSector, AlikeRecord}
 use Rattle.promises.specs.Locality.{SameFile}
 use Rattle.promises.specs.Writing.Storing.{NotOf}
 use Rattle.promises.specs.Writing.AcceptedWrite.{passing, takenBy, label-range, slot-inside}
@@ -72,6 +73,6 @@ module _ (image : List ℕ) (g : Geometry) (slot : ℕ) (bodies lengths : List �
           label = λ ho. let i = has-slot g image other ho .1 in
               same-label g image t (numbers-of image g j) other i (other-sector image g slot bodies lengths j w other i ne);
           sectors = λ ho.
-              every-map (Between g (rank g (startOf k)) (rank g (endOf k))) (SameSector g image t) (record-kept ho) (extent g k)
+              every-map (Between g (rank g (startOf k)) (rank g (endOf k))) (AlikeRecord g image t) (λ a p. inl (record-kept ho a p)) (extent g k)
               (rising-every g (rank g (startOf k)) (rank g (endOf k)) (extent g k) (extent-rising g k (label-in-range image g other j ho)));
         }

@@ -1,7 +1,7 @@
 -- Records packed under a label's rules: the sizes of the blocks, U, and the reading of them.
 -- Assumes nothing.
 use Prim.Native.Nat.{ℕ, zero, suc, _+_, _-_, _*_, _/_, _%_, _<_, _≤_}
-use mathlib.Core.Path.{_≡_, refl, ap, _∙_}
+use mathlib.Core.Path.{_≡_, refl, sym, ap, subst, _∙_}
 use mathlib.Core.Bool.{Bool, true, false, not, _&&_}
 use mathlib.Core.List.{List, [], _∷_, map}
 use lib.ListN.{length, drop, length-append, length-drop, length-replicate}
@@ -11,8 +11,9 @@ use native.Mathlib.Omega.{arith}
 use native.Mathlib.Nat.{not-suc-le-zero, le-refl, div-add-mod', mul-mod-left}
 use borrow.Author.Tests.{leb-true, leb-false, ltb-false, le-leb, eqb-true, eqb-false, not-false, ne-eqb}
 use Rattle.standard.specs.Labels.{isVariable, isSpanned, formatOf, blockLength, recordLength, isBlocked, Format, fixed, variable, spanned}
-use Rattle.standard.specs.Records.{plain, readAll}
-use Rattle.standard.specs.Packing.{Laid, recordV, lay, layOne, spread, least, layS, pack, fileOf}
+use Rattle.standard.specs.Records.{plain}
+use Rattle.standard.specs.Listed.{readAll}
+use Rattle.standard.specs.Packing.{Packing, unusedIn, layF, recordV, layOne, Laid, spread, least, layS, pack, fileOf}
 use Rattle.standard.specs.Refusals.{refuse}
 use Rattle.standard.specs.Writing.{total, parted, wrongIn, wrongLength, lengthsFrom}
 use Rattle.standard.specs.declared.Geometry.{Geometry}
@@ -23,8 +24,9 @@ use Rattle.promises.specs.Images.Tiling.{lengths}
 use Rattle.promises.specs.Volumes.Judging.{stop-first, stop-rest}
 use Rattle.promises.specs.Volumes.LabelRules.{Rules, Shape, isF, isV, isS, shape, fixed-low, fixed-high, fixed-one, fixed-whole, variable-low, variable-high, block-most, spanned-low, spanned-blocked}
 use Rattle.promises.specs.Reading.ReadingLaws.{Reads}
-use Rattle.promises.specs.Writing.WritingLaws.{goes-on, FitS, write-read-S, recordV-length, FitV, write-read-V, write-read-V1, FitF, Multiple, multiple-less, multiple-short, write-read-F}
-use Rattle.promises.specs.Writing.PackedSizes.{Sizes, lay-size, layS-size}
+use Rattle.promises.specs.Writing.Laying.{lay, Sizes, lay-size, within-F, laid-F, laid-V}
+use Rattle.promises.specs.Writing.WritingLaws.{goes-on, FitS, write-read-S, recordV-length, FitV, within-V, write-read-V, write-read-V1, FitF, Multiple, multiple-less, multiple-short, write-read-F}
+use Rattle.promises.specs.Writing.PackedSizes.{layS-size}
 
 -- the blocks have B bytes, and the last B-U
 abbrev pub Sized : ℕ → ℕ → List (List ℕ) → Type 0
@@ -107,40 +109,34 @@ pub record Right (f : Format) (R : ℕ) (bl : Bool) (B : ℕ) (xs : List (List �
   pub multiple : f ≡ fixed → pack (record { format = f; R = R; blocked = bl }) B xs .U % R ≡ 0
   pub reads : Reads (readAll plain (fileOf (record { format = f; R = R; blocked = bl }) (pack (record { format = f; R = R; blocked = bl }) B xs .contents))) xs
 
-fit-within : (R B : ℕ) → R ≤ B → (xs : List (List ℕ)) → FitF R xs → Within B xs
-fit-within R B h = every-map (λ x. length x ≡ R) (λ x. length x ≤ B) (λ x e. omega arith)
-
 fit-filling : (R : ℕ) → 1 ≤ R → (xs : List (List ℕ)) → FitF R xs → Filling xs
 fit-filling R h = every-map (λ x. length x ≡ R) (λ x. 1 ≤ length x) (λ x e. omega arith)
 
 multiple-mod : (R n : ℕ) → Multiple R n → n % R ≡ 0
 multiple-mod R n m = ap (λ (k : ℕ). k % R) (m .1) ∙ mul-mod-left (m .0) R
 
-right-F : (R : ℕ) (bl : Bool) (B : ℕ) → 1 ≤ R → R ≤ B → B % R ≡ 0 → (bl ≡ false → R ≡ B) → (xs : List (List ℕ)) → FitF R xs → Right fixed R bl B xs
-unfolding pack
-right-F R bl B r rb m one [] v =
+right-F : (R : ℕ) (bl : Bool) (B : ℕ) → 1 ≤ R → R ≤ B → B ≡ B / R * R → (bl ≡ false → R ≡ B) → (xs : List (List ℕ)) → FitF R xs → Right fixed R bl B xs
+unfolding pack layF unusedIn
+right-F R bl B r rb q one [] v =
     record {
       sized = refl;
       below = omega arith;
       unblocked = λ _. refl;
       multiple = λ _. multiple-mod R 0 (0, omega arith);
-      reads = write-read-F R bl B (B / R) r rb (omega (arith, div-add-mod' B R)) [] v;
+      reads = write-read-F R bl B r rb q [] v;
     }
-right-F R bl B r rb m one (x ∷ xs) v =
-    let q : B ≡ B / R * R = omega (arith, div-add-mod' B R) in
+right-F R bl B r rb q one (x ∷ xs) v =
+    let k = laid-F R bl B r rb q x xs v in
+    let same = ap (λ (p : Packing). p .U) k in
     let u = lay-multiple R B r rb (B / R, q) (x ∷ xs) v B (B / R, q) in
-    let b = lay-first B x xs (fit-within R B rb (x ∷ xs) v) (fit-filling R r (x ∷ xs) v) in
+    let b = lay-first B x xs (within-F R B rb (x ∷ xs) v) (fit-filling R r (x ∷ xs) v) in
     record {
-      sized = lay-size B (x ∷ xs) (fit-within R B rb (x ∷ xs) v) B;
-      below = b;
-      unblocked = λ e. multiple-short R _ (u .0) (u .1) (omega (arith, one e));
-      multiple = λ _. multiple-mod R _ u;
-      reads = write-read-F R bl B (B / R) r rb q (x ∷ xs) v;
+      sized = subst (λ (p : Packing). Sized B (p .U) (p .contents)) (sym k) (lay-size B (x ∷ xs) (within-F R B rb (x ∷ xs) v) B);
+      below = omega (arith, same, b);
+      unblocked = λ e. same ∙ multiple-short R _ (u .0) (u .1) (omega (arith, one e));
+      multiple = λ _. ap (λ (n : ℕ). n % R) same ∙ multiple-mod R _ u;
+      reads = write-read-F R bl B r rb q (x ∷ xs) v;
     }
-
-within-V : (R B : ℕ) → R ≤ B → (xs : List (List ℕ)) → FitV R xs → Within B (map recordV xs)
-within-V R B h [] v = tt
-within-V R B h (x ∷ xs) v = (omega (arith, v .0, recordV-length x), within-V R B h xs (v .1))
 
 filling-V : (xs : List (List ℕ)) → Filling (map recordV xs)
 filling-V [] = tt
@@ -156,13 +152,15 @@ not-false-true : {A : Type 0} → true ≡ false → A
 not-false-true e = absurd (true-not-false true refl e)
 
 right-V : (R : ℕ) (bl : Bool) (B : ℕ) → 4 ≤ R → R ≤ B → B ≤ 9999 → (xs : List (List ℕ)) → FitV R xs → Right variable R bl B xs
-unfolding pack
+unfolding pack unusedIn
 right-V R true B r rb most [] v =
     record { sized = refl; below = omega arith; unblocked = not-false-true; multiple = not-fixed-V; reads = write-read-V R B (omega arith) rb [] v }
 right-V R true B r rb most (x ∷ xs) v =
+    let k = laid-V R B x xs (within-V R B rb (x ∷ xs) v) in
+    let b = lay-first B (recordV x) (map recordV xs) (within-V R B rb (x ∷ xs) v) (filling-V (x ∷ xs)) in
     record {
-      sized = lay-size B (map recordV (x ∷ xs)) (within-V R B rb (x ∷ xs) v) B;
-      below = lay-first B (recordV x) (map recordV xs) (within-V R B rb (x ∷ xs) v) (filling-V (x ∷ xs));
+      sized = subst (λ (p : Packing). Sized B (p .U) (p .contents)) (sym k) (lay-size B (map recordV (x ∷ xs)) (within-V R B rb (x ∷ xs) v) B);
+      below = omega (arith, ap (λ (p : Packing). p .U) k, b);
       unblocked = not-false-true;
       multiple = not-fixed-V;
       reads = write-read-V R B (omega arith) rb (x ∷ xs) v;
@@ -243,7 +241,8 @@ packed-right g h bodies lengths r p e = go (shape h (r .r40)) (lengths-fit h 0 l
     go : Shape h → Every (λ x. wrongLength h (length x) ≡ false) (parted bodies lengths)
         → Right (formatOf h) (recordLength h) (isBlocked h) (blockLength h) (parted bodies lengths)
     go (isF f t) v =
-        rw f (right-F (recordLength h) (isBlocked h) (blockLength h) (fixed-low g h r t) (fixed-high g h r t) (fixed-whole g h r t) (fixed-one g h r t) (parted bodies lengths)
+        let q : blockLength h ≡ blockLength h / recordLength h * recordLength h = omega (arith, div-add-mod' (blockLength h) (recordLength h), fixed-whole g h r t) in
+        rw f (right-F (recordLength h) (isBlocked h) (blockLength h) (fixed-low g h r t) (fixed-high g h r t) q (fixed-one g h r t) (parted bodies lengths)
         (fits-F (blockLength h) (recordLength h) (parted bodies lengths) (rw f at v)))
     go (isV f t) v =
         rw f (right-V (recordLength h) (isBlocked h) (blockLength h) (variable-low g h r t) (variable-high g h r t) (block-most g h r (rw t)) (parted bodies lengths)

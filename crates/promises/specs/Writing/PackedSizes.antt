@@ -1,41 +1,18 @@
--- The sizes of what is written: each block has B bytes, and the last B-U; U is below B.
+-- The sizes of the blocks of S: each has B bytes, and the last B-U.
 -- Assumes nothing.
 use Prim.Native.Nat.{ℕ, zero, suc, _+_, _-_, _≤_, _<_}
 use mathlib.Core.Path.{_≡_, refl}
 use mathlib.Core.Bool.{Bool, true, false}
-use mathlib.Core.List.{List, [], _∷_, _++_}
-use lib.ListN.{length, take, drop, length-append, length-replicate}
+use mathlib.Core.List.{List, [], _∷_}
+use lib.ListN.{length, take, drop, length-replicate}
 use lib.Dec.{leb}
 use native.Mathlib.Omega.{arith}
 use native.Mathlib.Nat.{not-suc-le-zero, le-refl}
 use borrow.Author.Tests.{leb-true, leb-false}
-use Rattle.standard.specs.Packing.{Laid, then, segment, lay, segmentRole, spread, least, layS}
+use Rattle.standard.specs.Packing.{Laid, segment, segmentRole, spread, least, layS}
 use Rattle.promises.specs.Ground.Lists.{Every}
+use Rattle.promises.specs.Writing.Laying.{SizesOf, sizes-then}
 use Rattle.promises.specs.Writing.WritingLaws.{segment-length, goes-on}
-
--- blocks from one of which `room` bytes are left: all are full, but the last lacks u
-abbrev pub Sizes : ℕ → ℕ → List ℕ → List (List ℕ) → ℕ → Type 0
-Sizes B room here [] u = length here + u ≡ room
-Sizes B room here (c ∷ cs) u = (length here ≡ room) × Sizes B B c cs u
-
-abbrev SizesOf : ℕ → ℕ → Laid → Type 0
-SizesOf B room l = Sizes B room (l .here) (l .later) (l .unused)
-
-sizes-append : (B room : ℕ) (e here : List ℕ) (cs : List (List ℕ)) (u : ℕ) → length e ≤ room → Sizes B (room - length e) here cs u → Sizes B room (e ++ here) cs u
-sizes-append B room e here [] u h k = omega (arith, length-append e here)
-sizes-append B room e here (c ∷ cs) u h k = (omega (arith, length-append e here, k .0), k .1)
-
-sizes-then : (B room n : ℕ) (e : List ℕ) (l : Laid) → length e ≡ n → n ≤ room → SizesOf B (room - n) l → SizesOf B room (then e l)
-sizes-then B room n e l q h k = sizes-append B room e (l .here) (l .later) (l .unused) (omega arith) (rw q k)
-
-pub lay-size : (B : ℕ) (es : List (List ℕ)) → Every (λ e. length e ≤ B) es → (room : ℕ) → SizesOf B room (lay B room es)
-unfolding lay
-lay-size B [] v room = omega arith
-lay-size B (e ∷ es) v room = go (leb (length e) room) refl (λ r. lay-size B es (v .1) r)
-  where
-    go : (t : Bool) → leb (length e) room ≡ t → ((r : ℕ) → SizesOf B r (lay B r es)) → SizesOf B room (lay B room (e ∷ es))
-    go true q k = rw q (sizes-then B room (length e) e (lay B (room - length e) es) refl (leb-true (length e) room q) (k (room - length e)))
-    go false q k = rw q (length-replicate room 0, sizes-then B B (length e) e (lay B (B - length e) es) refl (v .0) (k (B - length e)))
 
 spread-size : (B : ℕ) (more : ℕ → Laid) → ((r : ℕ) → r ≤ B → SizesOf B r (more r)) → (n : ℕ) (begun : Bool) (room : ℕ) (body : List ℕ)
     → length body < n → least body ≤ room → room ≤ B → SizesOf B room (spread n B begun room body more)

@@ -23,7 +23,7 @@ use Rattle.promises.specs.Images.Tiling.{addresses-apart}
 use Rattle.promises.specs.Images.SectorLaws.{same-body, same-failed}
 use Rattle.promises.specs.Extents.ExtentAddresses.{Rising, Between, rising-every, rising-legal, rising-take, rising-drop}
 use Rattle.promises.specs.Extents.ExtentReads.{SameSector, same-block}
-use Rattle.promises.specs.Writing.PackedSizes.{Sizes}
+use Rattle.promises.specs.Writing.Laying.{Sizes}
 use Rattle.promises.specs.Writing.Storing.{WholeImage, store-length, store-body, store-sound, block-length, NotOf, block-other, blocks-other}
 
 filled-full : (n : ℕ) (c : List ℕ) → length c ≡ n → filledTo n c ≡ c

@@ -12,9 +12,8 @@ use native.Mathlib.Omega.{arith}
 use native.Mathlib.Numerals.{add-one}
 use native.Mathlib.Nat.{not-suc-le-zero, mul-le-mul-right, le-div-iff-mul-le}
 use borrow.Author.Tests.{lt-ltb, le-ltb, ne-eqb}
-use Rattle.standard.specs.Characters.{field}
 use Rattle.standard.specs.Layout.{kAt, bodySize, kindOffset, bodyOffset, kindAt, bodyAt, labelAt}
-use Rattle.standard.specs.Addresses.{legal, rank, stepped, firstAddress, ordinal, fiveBytes}
+use Rattle.standard.specs.Addresses.{legal, rank, stepped, firstAddress, ordinal}
 use Rattle.standard.specs.Labels.{startOf, endOf}
 use Rattle.standard.specs.Judgement.{judged}
 use Rattle.standard.specs.Files.{goodRecords, recordsToBlock, blocksHeld}
@@ -35,10 +34,8 @@ use Rattle.promises.specs.Writing.Storing.{WholeImage, store-length, sto
 use Rattle.promises.specs.Writing.DataEnds.{later-at}
 use Rattle.promises.specs.Writing.AcceptedWrite.{stored, label-range, after-is}
 use Rattle.promises.specs.Writing.WrittenImage.{result}
-use Rattle.promises.specs.Writing.WrittenLabel.{records-some}
 use Rattle.promises.specs.Writing.StoredBlocks.{front-back, one, small, one-whole, rest-same}
 use Rattle.promises.specs.Writing.ReadBack.{set-same, enough-records}
-use Rattle.promises.specs.Writing.WritingPromises.{end-set}
 
 -- ---- THE DATA END: one of three
 module _ (g : Geometry) (image h : List ℕ) where
@@ -89,7 +86,7 @@ module _ (g : Geometry) where
   abbrev pub recordOf : Address → List ℕ → List ℕ
   recordOf a c = kAt g (ordinal g a) ∷ filledTo (g .P) (take (g .P) c)
 
-  store-sector : (a : Address) (c s : List ℕ) → legal g a ≡ true → length c ≤ g .P → WholeImage g s
+  pub store-sector : (a : Address) (c s : List ℕ) → legal g a ≡ true → length c ≤ g .P → WholeImage g s
       → sectorAt g (storeRecord g (ordinal g a) c s) (ordinal g a) ≡ kAt g (ordinal g a) ∷ filledTo (g .P) c
   unfolding bodyOffset
   store-sector a c s la lc ls =

@@ -12,14 +12,16 @@ use native.Mathlib.Omega.{arith}
 use native.Mathlib.Nat.{not-suc-le-zero, le-refl}
 use borrow.Author.Tests.{le-leb, lt-leb, leb-true, leb-false, ne-eqb, lt-ltb, ltb-true}
 use Rattle.standard.specs.Pieces.{held, Role, whole, first, middle, last, blank, piece, isFill, number4, four, roleOf, lookF, lookV, lookS, look, Token, part, afterPart, pieces, inBlock, inBlocks}
-use Rattle.standard.specs.Records.{plain, State, fresh, within, over, meet, Item, readAll, joinMove, join, listed}
-use Rattle.standard.specs.Packing.{Laid, then, thenNext, fill, roleByte, recordV, segment, lay, layOne, segmentRole, spread, least, layS, pack, fileOf}
+use Rattle.standard.specs.Records.{plain, State, fresh, within, over, meet}
+use Rattle.standard.specs.Listed.{Item, readAll, joinMove, join, listed}
+use Rattle.standard.specs.Packing.{Packing, fill, layF, recordV, layOne, segmentRole, roleByte, segment, Laid, thenHere, thenNext, spread, least, layS, pack, fileOf}
 use Rattle.standard.specs.Characters.{digitValue, padded}
 use Rattle.standard.specs.Labels.{fixed, variable, spanned, Params}
 use Rattle.promises.specs.Ground.Lists.{Every}
 use Rattle.promises.specs.Reading.PiecesLaws.{look-nil, pieces-eq}
 use Rattle.promises.specs.Reading.ReadingLaws.{readAll-listed, Reads, reads-cons}
 use Rattle.promises.specs.Ground.Digits.{digit-is}
+use Rattle.promises.specs.Writing.Laying.{lay, laid-F, laid-V}
 
 -- ---- four digits, there and back
 
@@ -121,14 +123,18 @@ ReadsFrom : ℕ → Bool → ℕ → ℕ → Laid → State → List (List ℕ) 
 ReadsFrom R bl b o l st xs = Reads (join plain (S R bl) (laidTokens (S R bl) b o l) st) xs
 
 module _ (R : ℕ) (bl : Bool) (b o : ℕ) (l : Laid) where
+  -- what is read behind a segment of this body
+  abbrev onward : List ℕ → State → List Item
+  onward body st = join plain (S R bl) (laidTokens (S R bl) b (o + (5 + length body)) l) st
+
   end-reads : (begun : Bool) (body : List ℕ) (xs : List (List ℕ)) (st : State) (acc : List ℕ) → Stands begun st acc → 5 + length body < 10000
       → over (S R bl) (length (acc ++ body)) ≡ false → ((o′ : ℕ) → ReadsFrom R bl b o′ l fresh xs)
-      → ReadsFrom R bl b o (then (segment (segmentRole begun true) body) l) st ((acc ++ body) ∷ xs)
+      → ReadsFrom R bl b o (thenHere (segment (segmentRole begun true) body) l) st ((acc ++ body) ∷ xs)
   unfolding ReadsFrom laidTokens join
   end-reads begun body xs st acc idle h v k =
-      rw (segment-pieces R bl b o whole body (l .here) h) (put-end R bl b o _ false fresh [] body xs idle v (k (o + (5 + length body))))
+      rw (segment-pieces R bl b o whole body (l .here) h) (put-end R bl b o (onward body) false fresh [] body xs idle v (k (o + (5 + length body))))
   end-reads begun body xs st acc (inside {acc = a} {f = f}) h v k =
-      rw (segment-pieces R bl b o last body (l .here) h) (put-end R bl b o _ true (within a f) a body xs inside v (k (o + (5 + length body))))
+      rw (segment-pieces R bl b o last body (l .here) h) (put-end R bl b o (onward body) true (within a f) a body xs inside v (k (o + (5 + length body))))
 
   part-reads : (begun : Bool) (body : List ℕ) (ys : List (List ℕ)) (st : State) (acc : List ℕ) → Stands begun st acc → 5 + length body < 10000
       → over (S R bl) (length (acc ++ body)) ≡ false → ((st₁ : State) → Stands true st₁ (acc ++ body) → ReadsFrom R bl (suc b) 0 l st₁ ys)
@@ -261,7 +267,7 @@ module _ (p : Params) (B : ℕ) (free : (n : ℕ) → over p n ≡ false) (Room 
       × Laying es xs
 
   place-reads : (b o : ℕ) (e x : List ℕ) (l : Laid) (xs : List (List ℕ)) → ((o′ : ℕ) (more : List ℕ) → look p o′ (e ++ more) ≡ piece whole x (length e))
-      → ((o′ : ℕ) → Reads (join plain p (laidTokens p b o′ l) fresh) xs) → Reads (join plain p (laidTokens p b o (then e l)) fresh) (x ∷ xs)
+      → ((o′ : ℕ) → Reads (join plain p (laidTokens p b o′ l) fresh) xs) → Reads (join plain p (laidTokens p b o (thenHere e l)) fresh) (x ∷ xs)
   unfolding laidTokens join
   place-reads b o e x l xs h k =
       rw (pieces-eq p b o (e ++ l .here), h o (l .here), free (length x), drop-append-seam e (l .here)) (reads-cons (record { body = x; firstBlock = b; lastBlock = b }) (k (o + length e)))
@@ -284,7 +290,7 @@ module _ (p : Params) (B : ℕ) (free : (n : ℕ) → over p n ≡ false) (Room 
       go true q k =
           rw q (place-reads b o e x (lay B (room - length e) es) xs (v .0) (λ o′. k b o′ (room - length e) (v .2 room h (leb-true (length e) room q))))
       go false q k =
-          rw q (over-reads b o room (then e (lay B (B - length e) es)) (x ∷ xs) (v .1 o room h (leb-false (length e) room q))
+          rw q (over-reads b o room (thenHere e (lay B (B - length e) es)) (x ∷ xs) (v .1 o room h (leb-false (length e) room q))
           (place-reads (suc b) 0 e x (lay B (B - length e) es) xs (v .0) (λ o′. k (suc b) o′ (B - length e) (v .2 B rb (v .3)))))
 
 -- ---- V
@@ -330,13 +336,18 @@ layingV R B small rb (x ∷ xs) v =
     let l : length (recordV x) ≡ 4 + length x = recordV-length x in
     ((λ o more. lookV-record R true o x more refl (v .0) small), (λ o room _ _. lookV-fill R true o room), (λ _ _ _. tt), omega arith, layingV R B small rb xs (v .1))
 
+pub within-V : (R B : ℕ) → R ≤ B → (xs : List (List ℕ)) → FitV R xs → Every (λ e. length e ≤ B) (map recordV xs)
+within-V R B h [] v = tt
+within-V R B h (x ∷ xs) v = (omega (arith, v .0, recordV-length x), within-V R B h xs (v .1))
+
 pub write-read-V : (R B : ℕ) → R < 10000 → R ≤ B → (xs : List (List ℕ)) → FitV R xs
     → Reads (readAll plain (fileOf (VP R true) (pack (VP R true) B xs .contents))) xs
 unfolding pack
 write-read-V R B small rb [] v = read-none (VP R true)
 write-read-V R B small rb (x ∷ xs) v =
-    read-laid (VP R true) (lay B B (map recordV (x ∷ xs))) (x ∷ xs)
-    (lay-reads (VP R true) B (λ _. refl) (λ _. Unit {0}) tt (map recordV (x ∷ xs)) (x ∷ xs) (layingV R B small rb (x ∷ xs) v) 0 0 B tt)
+    subst (λ (k : Packing). Reads (readAll plain (fileOf (VP R true) (k .contents))) (x ∷ xs)) (sym (laid-V R B x xs (within-V R B rb (x ∷ xs) v)))
+    (read-laid (VP R true) (lay B B (map recordV (x ∷ xs))) (x ∷ xs)
+    (lay-reads (VP R true) B (λ _. refl) (λ _. Unit {0}) tt (map recordV (x ∷ xs)) (x ∷ xs) (layingV R B small rb (x ∷ xs) v) 0 0 B tt))
 
 -- V unblocked
 
@@ -399,10 +410,11 @@ layingF R bl B r rb (x ∷ xs) v = (
   layingF R bl B r rb xs (v .1),
 )
 
-pub write-read-F : (R : ℕ) (bl : Bool) (B q : ℕ) → 1 ≤ R → R ≤ B → B ≡ q * R → (xs : List (List ℕ)) → FitF R xs
+pub write-read-F : (R : ℕ) (bl : Bool) (B : ℕ) → 1 ≤ R → R ≤ B → B ≡ B / R * R → (xs : List (List ℕ)) → FitF R xs
     → Reads (readAll plain (fileOf (FP R bl) (pack (FP R bl) B xs .contents))) xs
-unfolding pack
-write-read-F R bl B q r rb e [] v = read-none (FP R bl)
-write-read-F R bl B q r rb e (x ∷ xs) v =
-    read-laid (FP R bl) (lay B B (x ∷ xs)) (x ∷ xs)
-    (lay-reads (FP R bl) B (λ _. refl) (Multiple R) (q, e) (x ∷ xs) (x ∷ xs) (layingF R bl B r rb (x ∷ xs) v) 0 0 B (q, e))
+unfolding pack layF
+write-read-F R bl B r rb e [] v = read-none (FP R bl)
+write-read-F R bl B r rb e (x ∷ xs) v =
+    subst (λ (k : Packing). Reads (readAll plain (fileOf (FP R bl) (k .contents))) (x ∷ xs)) (sym (laid-F R bl B r rb e x xs v))
+    (read-laid (FP R bl) (lay B B (x ∷ xs)) (x ∷ xs)
+    (lay-reads (FP R bl) B (λ _. refl) (Multiple R) (B / R, e) (x ∷ xs) (x ∷ xs) (layingF R bl B r rb (x ∷ xs) v) 0 0 B (B / R, e)))

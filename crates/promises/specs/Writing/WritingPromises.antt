@@ -2,8 +2,7 @@
 -- Assumes nothing.
 use Prim.Native.Nat.{_<_, ℕ, _+_, _≤_}
 use mathlib.Core.Path.{subst, sym, _≡_, refl, ap, _∙_}
-use mathlib.Core.Bool.{true}
-use mathlib.Core.List.{List, [], _∷_, _++_, map}
+use mathlib.Core.List.{List, [], _∷_, map, flatten}
 use lib.ListN.{length, getD, drop, length-drop, take-append-drop}
 use lib.Seq.{length-take-le}
 use native.Mathlib.Omega.{arith}
@@ -13,11 +12,11 @@ use Rattle.standard.specs.Characters.{field}
 use Rattle.standard.specs.Layout.{kindOffset, slotCount, labelOffset, labelAt}
 use Rattle.standard.specs.Addresses.{ordinal, fiveBytes}
 use Rattle.standard.specs.Labels.{paramsOf}
-use Rattle.standard.specs.Slots.{hasLabel}
 use Rattle.standard.specs.Judgement.{judged}
 use Rattle.standard.specs.Finding.{found, foundAt}
 use Rattle.standard.specs.Free.{freeCount}
-use Rattle.standard.specs.Records.{Mode, plain, salvage, readAll}
+use Rattle.standard.specs.Records.{Mode, plain, salvage}
+use Rattle.standard.specs.Listed.{readAll}
 use Rattle.standard.specs.Packing.{Packing, fileOf}
 use Rattle.standard.specs.Reading.{reply}
 use Rattle.standard.specs.declared.Geometry.{Geometry}
@@ -35,7 +34,7 @@ use Rattle.promises.specs.Volumes.AcceptedLaws.{image-length}
 use Rattle.promises.specs.Volumes.VolumeNumbers.{numbers-of}
 use Rattle.promises.specs.Volumes.IndexLaws.{SameViews, same-label}
 use Rattle.promises.specs.Volumes.IndexReads.{views-found, views-found-at, views-free}
-use Rattle.promises.specs.Locality.{SameFile, file-same, open-same, write-same, reply-same, counted-same}
+use Rattle.promises.specs.Locality.{SameFile, write-same, reply-same, counted-same}
 use Rattle.promises.specs.Volumes.VolumePromises.{file-at}
 use Rattle.promises.specs.Reading.ReadingLaws.{Reads}
 use Rattle.promises.specs.Salvage.NoneLost.{salvage-alike}
@@ -50,8 +49,7 @@ use Rattle.promises.specs.Writing.OtherFiles.{other-same}
 
 -- "Writing takes all record bodies joined, and their lengths." What is parted is the bodies, each of its length.
 abbrev pub joined : List (List ℕ) → List ℕ
-joined [] = []
-joined (x ∷ xs) = x ++ joined xs
+joined xs = flatten xs
 
 pub parted-lengths : (lengths bodies : List ℕ) → total lengths ≡ length bodies → map length (parted bodies lengths) ≡ lengths
 unfolding total parted
@@ -60,7 +58,7 @@ parted-lengths (n ∷ lengths) bodies e =
     rw (length-take-le n bodies (omega arith), parted-lengths lengths (drop n bodies) (omega (arith, length-drop n bodies)))
 
 pub parted-joined : (lengths bodies : List ℕ) → total lengths ≡ length bodies → joined (parted bodies lengths) ≡ bodies
-unfolding total parted
+unfolding flatten total parted
 parted-joined [] [] e = refl
 parted-joined [] (x ∷ bodies) e = absurd (omega (arith, e))
 parted-joined (n ∷ lengths) bodies e =

@@ -12,7 +12,8 @@ use borrow.Author.Tests.{le-ltb}
 use Rattle.standard.specs.Layout.{labelAt}
 use Rattle.standard.specs.Refusals.{refuse}
 use Rattle.standard.specs.Judgement.{judged}
-use Rattle.standard.specs.Records.{Mode, plain, salvage, Record, Item, rec, end, readAll, listed}
+use Rattle.standard.specs.Records.{Mode, plain, salvage, FileRecord}
+use Rattle.standard.specs.Listed.{Item, rec, end, readAll, listed}
 use Rattle.standard.specs.Places.{start}
 use Rattle.standard.specs.Files.{fileIn, fileAt}
 use Rattle.standard.specs.Writing.{total, parted, writeRefusal, imageAfter}
@@ -46,7 +47,7 @@ take-long : (n : ℕ) (t : Bool) (body : List ℕ) (hs ks : List Heard) → hs �
 take-long n true body hs ks e = ap (λ (l : List Heard). refused (refuse 23 (length body)) ∷ l) (sym (take-nil {A = Heard} n))
 take-long n false body hs ks e = ap (λ (l : List Heard). told body ∷ l) e
 
-heard-told : (room n : ℕ) (rs : List Record) → heardIn room (take n (map rec rs ++ (end ∷ []))) ≡ take n (toldIn room (map bodyOf rs))
+heard-told : (room n : ℕ) (rs : List FileRecord) → heardIn room (take n (map rec rs ++ (end ∷ []))) ≡ take n (toldIn room (map bodyOf rs))
 unfolding heardIn toldIn
 heard-told room zero rs = refl
 heard-told room (suc n) [] = rw (take-nil {A = Item} n, take-nil {A = Heard} n)

@@ -17,7 +17,7 @@ store-requires c κs =
     let x = c .before .before .before .before .before .before .before in
     let a = x .args in
     let k = plan-storable (a .g) (now (a .image)) (a .slot) (now (a .bodies)) (now (a .lengths)) (a .p) (x .pre) in
-    (plan-sized (a .g) (now (a .image)) (a .slot) (now (a .bodies)) (now (a .lengths)) (a .p) (x .pre), c .before .before .to-good .ensures .1, k .0, k .1, k .2, k .3, k .4, k .5)
+    (plan-sized (a .g) (now (a .image)) (a .slot) (now (a .bodies)) (now (a .lengths)) (a .p) (x .pre), c .before .before .to-good .ensures .1, k .0, k .1, k .2, k .3, (λ e. (_, k .4 e)), k .5)
 
 set-label-requires : tie.Need-set-label-requires
 set-label-requires c κs =
