@@ -13,7 +13,7 @@ use Rattle.standard.specs.Layout.{indexSectors, labelAt}
 use Rattle.standard.specs.Judgement.{judged}
 use Rattle.standard.specs.Files.{extent, blockCount, openRefusal, fileIn}
 use Rattle.standard.specs.Records.{Mode, plain, salvage, FileRecord, File, entering, inFile}
-use Rattle.standard.specs.Listed.{rec, end, listed}
+use Rattle.standard.specs.Listed.{Item, rec, end, listed}
 use Rattle.standard.specs.Places.{start, nextBlock, endPlace}
 use Rattle.standard.specs.Damage.{recordsIn, gapsIn, sparedOf, goneOf}
 use Rattle.standard.specs.Pieces.{ahead}
@@ -25,21 +25,22 @@ use Rattle.standard.specs.declared.Answer.{Answer}
 use Rattle.standard.specs.declared.Answer.the-variants.{Unanswered, Gap, End, Record as RecordOf}
 use Rattle.standard.specs.declared.Checked.the-variants.{Passed}
 use Rattle.standard.specs.declared.Judged.the-variants.{Volume}
-use Rattle.promises.specs.Ground.Basics.{never}
+use Rattle.promises.specs.Ground.Basics.{never, either}
 use Rattle.promises.specs.Refusals.ReadingRefused.{LostIn, FirstLost}
 use Rattle.promises.specs.Reading.ReadingLaws.{bodyOf}
-use Rattle.promises.specs.Reading.Following.{Heard, told, gapAt, done, refused, onward, following, heard, heardIn, Fits}
+use Rattle.promises.specs.Reading.Following.{Heard, told, gapAt, done, refused, onward, following, heardIn}
 use Rattle.promises.specs.Reading.AnyPlace.{listedFrom}
 use Rattle.promises.specs.Images.Sectors.{AgreeOn, sectorOf}
 use Rattle.promises.specs.Salvage.Failing.{Failed, Spares, OfBlocks, ReadsWhole, gone, expected}
 use Rattle.promises.specs.Reading.WholeLaws.{opens-whole}
 use Rattle.promises.specs.Salvage.Failable.{failedAt, failedIn, among}
-use Rattle.promises.specs.Salvage.PlainFailed.{FirstGone, NoneGone, cutAt}
+use Rattle.promises.specs.Salvage.PlainFailed.{FirstGone, NoneGone, first-or-none, cutAt}
 use Rattle.promises.specs.Reading.Runs.{Stands}
 use Rattle.promises.specs.Reading.GoingOn.{Finished}
 use Rattle.promises.specs.Demands.{gap-stays, end-stays, record-stays, reading-gives, reading-gives-from, reading-goes-on, record-leads, gap-leads, end-leads, salvage-gives, plain-gives, blocks-may-fail, never-joined, joined-rightly, locality}
 use Rattle.promises.specs.Instances.{image, output, geometry, bodies, computed, fails-9, of-blocks}
 use Rattle.demanded.specs.Calls.{Response, Meets, Asked, ask, read, contract}
+use Rattle.demanded.specs.Called.{defined, answered}
 
 -- A FUNCTION THAT READS, and that it meets the contract, of plain reading or of salvage
 abbrev pub Reader : Type 0
@@ -49,11 +50,8 @@ abbrev pub Reads : Mode → Reader → Type 0
 Reads m r = Meets (contract (read m)) r
 
 -- one such function: the definitions themselves
-abbrev pub defined : Mode → Reader
-defined m i = record { answer = contract (read m) .result i; after = contract (read m) .left i }
-
-pub defined-reads : (m : Mode) → Reads m (defined m)
-defined-reads m i = (refl, refl)
+abbrev pub asDefined : Mode → Reader
+asDefined m = defined (contract (read m))
 
 -- WHAT A CALLER HEARS who reads a place with such a function, and then each place that it hands out, at most n times, stopping at End or a refusal. Each
 -- reading is into the same output, as the one before left it.
@@ -164,36 +162,34 @@ module _ (m : Mode) (r : Reader) (meets : Reads m r) where
       )
 
 -- ======== DEMAND 3
--- THE FILE'S RECORDS, each with the blocks in which it begins and ends: its own list, which ends in End. So nothing of them can be chosen afterwards.
-abbrev pub RecordsOf : Geometry → List ℕ → ℕ → List FileRecord → Type 0
-RecordsOf g image slot rs = listed plain (fileIn g image (labelAt g image slot)) ≡ map rec rs ++ (end ∷ [])
+-- THE FILE'S RECORDS, of these bodies, each with the blocks in which it begins and ends: its own list, which ends in End. So nothing of them can be chosen
+-- afterwards.
+pub record RecordsOf (g : Geometry) (image : List ℕ) (slot : ℕ) (bodies : List (List ℕ)) : Type 0 where
+  pub records : List FileRecord
+  pub list : listed plain (fileIn g image (labelAt g image slot)) ≡ map rec records ++ (end ∷ [])
+  pub bodies-are : map bodyOf records ≡ bodies
 
 -- "salvage gives, in order, every record no block of which is lost, one gap per lost block at its place, nothing more": what is heard of a file whose records had
 -- these bodies, in an image where sectors have failed (`hit` names them)
 pub record SalvagedAs (salvager : Reader) (g : Geometry) (hit : ℕ → Bool) (image image′ : List ℕ) (slot : ℕ) (bodies : List (List ℕ)) : Type 0 where
-  -- its records before the failure
-  pub records : List FileRecord
-  pub before : RecordsOf g image slot records
-  pub bodies-are : map bodyOf records ≡ bodies
+  pub before : RecordsOf g image slot bodies
   -- `expected`: block by block a gap for a block that is gone, and otherwise the spared records that end in it; then End. `heardIn`: the list as it is heard with
   -- so much room in the output, which is the list itself up to a record that is too long, where 23 is heard
   pub is-heard : (n : ℕ) (out : List ℕ)
-      → followed n salvager image′ slot out start ≡ heardIn (length out) (take n (expected g hit image (labelAt g image slot) records))
+      → followed n salvager image′ slot out start ≡ heardIn (length out) (take n (expected g hit image (labelAt g image slot) (before .records)))
   -- its records are all that no gone block touches, in order; its gaps one for each block that is gone
-  pub records-are : recordsIn (expected g hit image (labelAt g image slot) records) ≡ sparedOf (gone g hit image (labelAt g image slot)) records
-  pub gaps-are : gapsIn (expected g hit image (labelAt g image slot) records)
+  pub records-are : recordsIn (expected g hit image (labelAt g image slot) (before .records)) ≡ sparedOf (gone g hit image (labelAt g image slot)) (before .records)
+  pub gaps-are : gapsIn (expected g hit image (labelAt g image slot) (before .records))
       ≡ goneOf (gone g hit image (labelAt g image slot)) 0 (blockCount g image (labelAt g image slot))
 
--- What a plain reader is heard to give then: the records that end before the first lost block, and 20 naming it; or, if no block is lost, all records and End. (The
--- output has room for every record: `Fits`. `FirstGone`, `NoneGone`: the first block that is gone; none is. `cutAt b`: the records that end before block b, and 20.)
+-- What a plain reader is heard to give then: the records that end before the first lost block, and 20 naming it; or, if no block is lost, all records and End.
+-- (`FirstGone`, `NoneGone`: the first block that is gone; none is. `cutAt b`: the records that end before block b, and 20.)
 pub record ReadAs (reader : Reader) (g : Geometry) (hit : ℕ → Bool) (image image′ : List ℕ) (slot : ℕ) (bodies : List (List ℕ)) : Type 0 where
-  pub records : List FileRecord
-  pub before : RecordsOf g image slot records
-  pub bodies-are : map bodyOf records ≡ bodies
+  pub before : RecordsOf g image slot bodies
   pub up-to : (b : ℕ) → FirstGone (gone g hit image (labelAt g image slot)) (blockCount g image (labelAt g image slot)) b → (n : ℕ) (out : List ℕ)
-      → Fits (length out) (map rec records) → followed n reader image′ slot out start ≡ take n (map heard (cutAt b records))
+      → followed n reader image′ slot out start ≡ heardIn (length out) (take n (cutAt b (before .records)))
   pub all : NoneGone (gone g hit image (labelAt g image slot)) (blockCount g image (labelAt g image slot)) → (n : ℕ) (out : List ℕ)
-      → Fits (length out) (map rec records) → followed n reader image′ slot out start ≡ take n (map heard (map rec records ++ (end ∷ [])))
+      → followed n reader image′ slot out start ≡ heardIn (length out) (take n (map rec (before .records) ++ (end ∷ [])))
 
 -- "After any of a readable file's sectors fail their check": `reader` reads the file whole before (these bodies and End), and the sectors that `hit` names fail
 -- (`Failed`: the other sectors have the same bytes, those have the kind of a failed check and any bytes behind it).
@@ -210,23 +206,26 @@ module _ (reader salvager : Reader) (reads : Reads plain reader) (salvages : Rea
     salvager-gives =
         let s = salvage-gives image image′ g slot bodies hit accepted whole fail spares in
         record {
-          records = s .0;
-          before = s .2 .before;
-          bodies-are = s .1;
+          before = record { records = s .0; list = s .2 .before; bodies-are = s .1 };
           is-heard = λ n out. followed-is salvage salvager salvages n image′ slot out start ∙ s .3 n out;
           records-are = sym (ap recordsIn (s .2 .list)) ∙ s .2 .list-records;
           gaps-are = sym (ap gapsIn (s .2 .list)) ∙ s .2 .list-gaps;
         }
 
+    -- the failed image is read as its list
+    heard-as : (is : List Item) → listed plain (fileIn g image′ (labelAt g image′ slot)) ≡ is
+        → (n : ℕ) (out : List ℕ) → followed n reader image′ slot out start ≡ heardIn (length out) (take n is)
+    heard-as is e n out =
+        let s = salvage-gives image image′ g slot bodies hit accepted whole fail spares .2 in
+        gives plain reader reads image′ g slot (s .volume) (s .opens) n out ∙ ap (λ (js : List Item). heardIn (length out) (take n js)) e
+
     pub reader-gives : ReadAs reader g hit image image′ slot bodies
     reader-gives =
         let p = plain-gives image image′ g slot bodies hit accepted whole fail spares in
         record {
-          records = p .0;
-          before = p .2 .0;
-          bodies-are = p .1;
-          up-to = λ b first n out room. followed-is plain reader reads n image′ slot out start ∙ p .2 .1 b first .answers n out room;
-          all = λ none n out room. followed-is plain reader reads n image′ slot out start ∙ p .2 .2 none .answers n out room;
+          before = record { records = p .0; list = p .2 .0; bodies-are = p .1 };
+          up-to = λ b first. heard-as (cutAt b (p .0)) (p .2 .1 b first .list);
+          all = λ none. heard-as (map rec (p .0) ++ (end ∷ [])) (p .2 .2 none .list);
         }
 
     -- "No record is ever joined out of two others": whatever the salvager gives as a record was a record of the file before
@@ -263,14 +262,35 @@ records-same (r ∷ rs) (q ∷ qs) e =
     let t : map rec rs ++ (end ∷ []) ≡ map rec qs ++ (end ∷ []) = cc in
     ap (λ (x : FileRecord). x ∷ rs) h ∙ ap (λ (xs : List FileRecord). q ∷ xs) (records-same rs qs t)
 
-pub salvaged-alike : (salvager other : Reader) (g : Geometry) (hit : ℕ → Bool) (image image′ : List ℕ) (slot : ℕ) (bodies bodies′ : List (List ℕ))
-    → SalvagedAs salvager g hit image image′ slot bodies → SalvagedAs other g hit image image′ slot bodies′
-    → (n : ℕ) (out : List ℕ) → followed n salvager image′ slot out start ≡ followed n other image′ slot out start
-salvaged-alike salvager other g hit image image′ slot bodies bodies′ s t n out =
-    let same : s .records ≡ t .records = records-same (s .records) (t .records) (sym (s .before) ∙ t .before) in
-    s .is-heard n out
-    ∙ ap (λ (rs : List FileRecord). heardIn (length out) (take n (expected g hit image (labelAt g image slot) rs))) same
-    ∙ sym (t .is-heard n out)
+one-list : (g : Geometry) (image : List ℕ) (slot : ℕ) (bodies bodies′ : List (List ℕ)) (a : RecordsOf g image slot bodies) (b : RecordsOf g image slot bodies′)
+    → a .records ≡ b .records
+one-list g image slot bodies bodies′ a b = records-same (a .records) (b .records) (sym (a .list) ∙ b .list)
+
+module _ (one other : Reader) (g : Geometry) (hit : ℕ → Bool) (image image′ : List ℕ) (slot : ℕ) (bodies bodies′ : List (List ℕ)) where
+  pub salvaged-alike : SalvagedAs one g hit image image′ slot bodies → SalvagedAs other g hit image image′ slot bodies′
+      → (n : ℕ) (out : List ℕ) → followed n one image′ slot out start ≡ followed n other image′ slot out start
+  salvaged-alike s t n out =
+      s .is-heard n out
+      ∙ ap (λ (rs : List FileRecord). heardIn (length out) (take n (expected g hit image (labelAt g image slot) rs)))
+      (one-list g image slot bodies bodies′ (s .before) (t .before))
+      ∙ sym (t .is-heard n out)
+
+  -- and so are plain readers
+  pub read-alike : ReadAs one g hit image image′ slot bodies → ReadAs other g hit image image′ slot bodies′
+      → (n : ℕ) (out : List ℕ) → followed n one image′ slot out start ≡ followed n other image′ slot out start
+  read-alike s t n out =
+      let same = one-list g image slot bodies bodies′ (s .before) (t .before) in
+      let lost = gone g hit image (labelAt g image slot) in
+      let count = blockCount g image (labelAt g image slot) in
+      either (first-or-none lost count)
+      (λ (none : NoneGone lost count).
+      s .all none n out
+      ∙ ap (λ (rs : List FileRecord). heardIn (length out) (take n (map rec rs ++ (end ∷ [])))) same
+      ∙ sym (t .all none n out))
+      (λ (first : (b : ℕ) × FirstGone lost count b).
+      s .up-to (first .0) (first .1) n out
+      ∙ ap (λ (rs : List FileRecord). heardIn (length out) (take n (cutAt (first .0) rs))) same
+      ∙ sym (t .up-to (first .0) (first .1) n out))
 
 -- ======== WHAT HAS TO BE REJECTED
 -- "These programs have to be rejected: one refusing everything and one naming the same record each time ..; a reader or salvager that gives the first record
@@ -315,10 +335,10 @@ module _ (r : Reader) (meets : Reads salvage r) where
 
 -- One that gives what stands before the lost block, its gap and End, and never the record behind it, is not heard as demanded, whatever it is heard to do
 -- elsewhere. (`failedIn geometry (9 ∷ [])` is the same image; nothing is asked of the contract here: it is the demand's own words that rule it out.)
-demanded-here : SalvagedAs (defined salvage) geometry (among (9 ∷ [])) image (failedIn geometry (9 ∷ []) image) 1 bodies
+demanded-here : SalvagedAs (asDefined salvage) geometry (among (9 ∷ [])) image (failedIn geometry (9 ∷ []) image) 1 bodies
 demanded-here =
-    salvager-gives-demanded (defined plain) (defined salvage) (defined-reads plain) (defined-reads salvage) image (failedIn geometry (9 ∷ []) image) geometry 1 bodies (among (9 ∷ []))
-    (computed .0) 4 output (reader-heard (defined plain) (defined-reads plain)) fails-9 of-blocks
+    salvager-gives-demanded (asDefined plain) (asDefined salvage) (answered (contract (read plain))) (answered (contract (read salvage))) image (failedIn geometry (9 ∷ []) image) geometry 1 bodies (among (9 ∷ []))
+    (computed .0) 4 output (reader-heard (asDefined plain) (answered (contract (read plain)))) fails-9 of-blocks
 
 one-failed : failedIn geometry (9 ∷ []) image ≡ failedAt geometry 9 image
 unfolding failedIn
@@ -327,8 +347,8 @@ one-failed = refl
 pub no-dropping : (r : Reader) → SalvagedAs r geometry (among (9 ∷ [])) image (failedIn geometry (9 ∷ []) image) 1 bodies
     → followed 4 r (failedIn geometry (9 ∷ []) image) 1 output start ≡ told (bytes "AAAAAAAA") ∷ gapAt 1 ∷ done ∷ [] → ⊥
 no-dropping r s h =
-    let other = salvaged-alike r (defined salvage) geometry (among (9 ∷ [])) image (failedIn geometry (9 ∷ []) image) 1 bodies bodies s demanded-here 4 output in
-    let heard = ap (λ (t : List ℕ). followed 4 (defined salvage) t 1 output start) one-failed ∙ salvager-heard (defined salvage) (defined-reads salvage) in
+    let other = salvaged-alike r (asDefined salvage) geometry (among (9 ∷ [])) image (failedIn geometry (9 ∷ []) image) 1 bodies bodies s demanded-here 4 output in
+    let heard = ap (λ (t : List ℕ). followed 4 (asDefined salvage) t 1 output start) one-failed ∙ salvager-heard (asDefined salvage) (answered (contract (read salvage))) in
     let e = sym h ∙ other ∙ heard in
     never (cc)
 

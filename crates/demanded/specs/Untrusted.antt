@@ -124,18 +124,18 @@ exports-trust-no-failed-body x f meets i image image′ e =
 
 -- ======== ANY ROW OF CALLS
 -- A caller asks one question after the other, each of the image as the calls before left it, and chooses each by all that he has heard so far: `Asking` is a call and
--- what it is given, `Heard` what is answered and what stands in the output.
+-- what it is given, `Hearing` what is answered and what stands in the output.
 pub record Asking : Type 0 where
   pub call : Call
   pub given : contract call .Input
 
-pub record Heard : Type 0 where
+pub record Hearing : Type 0 where
   pub call : Call
   pub answer : contract call .Result
   pub output : List ℕ
 
 abbrev pub Caller : Type 0
-Caller = List Heard → Asking
+Caller = List Hearing → Asking
 
 abbrev pub Functions : Type 0
 Functions = (c : Call) → contract c .Input → Response (contract c .Result)
@@ -151,7 +151,7 @@ imageThen an-output image after = image
 imageThen the-image image after = after
 
 -- what one question hears, and the image behind it
-abbrev pub hears : Functions → Asking → List ℕ → Heard
+abbrev pub hears : Functions → Asking → List ℕ → Hearing
 hears f a image =
     let r = f (a .call) (askedOf (a .call) (a .given) image) in
     record { call = a .call; answer = r .answer; output = outputIn (lends (a .call)) (r .after) }
@@ -160,11 +160,11 @@ abbrev pub leaves : Functions → Asking → List ℕ → List ℕ
 leaves f a image = imageThen (lends (a .call)) image (f (a .call) (askedOf (a .call) (a .given) image) .after)
 
 -- n more questions of a caller who has heard something: all that he has heard then, the last first, and the image behind them
-unfoldable pub heardAfter : Functions → Caller → ℕ → List Heard → List ℕ → List Heard
+unfoldable pub heardAfter : Functions → Caller → ℕ → List Hearing → List ℕ → List Hearing
 heardAfter f next zero past image = past
 heardAfter f next (suc n) past image = heardAfter f next n (hears f (next past) image ∷ past) (leaves f (next past) image)
 
-unfoldable pub imageBehind : Functions → Caller → ℕ → List Heard → List ℕ → List ℕ
+unfoldable pub imageBehind : Functions → Caller → ℕ → List Hearing → List ℕ → List ℕ
 imageBehind f next zero past image = image
 imageBehind f next (suc n) past image = imageBehind f next n (hears f (next past) image ∷ past) (leaves f (next past) image)
 
@@ -190,7 +190,7 @@ module _ (f : Functions) (meets : (c : Call) → Meets (contract c) (f c)) where
       (rw (one .0, outputs-alike (lends c) (r .after) (r′ .after) (one .1)), images-alike (lends c) image image′ (r .after) (r′ .after) e (one .1))
 
   -- WHOEVER ASKS, whatever he changes on the way: he hears the same of both images, and leaves two such images
-  pub no-caller-tells : (next : Caller) (n : ℕ) (past : List Heard) (image image′ : List ℕ) → EqualButFailed image image′
+  pub no-caller-tells : (next : Caller) (n : ℕ) (past : List Hearing) (image image′ : List ℕ) → EqualButFailed image image′
       → (heardAfter f next n past image ≡ heardAfter f next n past image′)
       × EqualButFailed (imageBehind f next n past image) (imageBehind f next n past image′)
   unfolding heardAfter imageBehind
@@ -199,7 +199,7 @@ module _ (f : Functions) (meets : (c : Call) → Meets (contract c) (f c)) where
       let a = next past in
       let one = one-question a image image′ e in
       let rest = no-caller-tells next n (hears f a image ∷ past) (leaves f a image) (leaves f a image′) (one .1) in (
-        rest .0 ∙ ap (λ (x : Heard). heardAfter f next n (x ∷ past) (leaves f a image′)) (one .0),
-        subst (λ (x : Heard). EqualButFailed (imageBehind f next n (hears f a image ∷ past) (leaves f a image)) (imageBehind f next n (x ∷ past) (leaves f a image′)))
+        rest .0 ∙ ap (λ (x : Hearing). heardAfter f next n (x ∷ past) (leaves f a image′)) (one .0),
+        subst (λ (x : Hearing). EqualButFailed (imageBehind f next n (hears f a image ∷ past) (leaves f a image)) (imageBehind f next n (x ∷ past) (leaves f a image′)))
             (one .0) (rest .1),
       )

@@ -51,9 +51,9 @@ use Rattle.promises.specs.Reading.Following.{told, done, following}
 use Rattle.promises.specs.Salvage.Failing.{Failed, Spares, OfBlocks, ReadsWhole}
 use Rattle.promises.specs.Demands.{write-list, write-counts, write-reads-back, write-changes-no-more, write-sets, write-stays-accepted, others-stay, finding-stays}
 use Rattle.promises.specs.Instances.{demo, demoVolume, demoBodies, demoLengths, demo-accepted, demo-heard}
-use Rattle.demanded.specs.Calls.{Response, Meets, ByName, InSlot, Given, named, inSlot, ask, give, judge, find, find-slot, free, count, write, contract}
-use Rattle.demanded.specs.Called.{alike, refuses-exactly}
-use Rattle.demanded.specs.Readers.{Reader, Reads, defined, defined-reads, followed, followed-is, SalvagedAs, salvager-gives, salvager-gives-demanded}
+use Rattle.demanded.specs.Calls.{Response, Meets, ByName, InSlot, Given, named, inSlot, ask, give, judge, find, find-slot, free, count, read, write, contract}
+use Rattle.demanded.specs.Called.{alike, answered, refuses-exactly}
+use Rattle.demanded.specs.Readers.{Reader, Reads, asDefined, followed, followed-is, SalvagedAs, salvager-gives, salvager-gives-demanded}
 use Rattle.demanded.specs.CarryLaws.{last-between, end-behind-last, defects-between, goes-on-inside, goes-on-end, needed-some, needed-none, no-record-heard}
 
 -- A FUNCTION THAT WRITES, and that it meets the contract
@@ -205,18 +205,18 @@ module _ (w : Writer) (meets : Writes w) where
     whole-again : ReadsWhole after slot (parted bodies lengths)
     whole-again = subst (λ (s : List ℕ). ReadsWhole s slot (parted bodies lengths)) (sym left) (written-whole image g slot bodies lengths accepted passed)
 
-    heard-again : followed (whole-again .readings) (defined plain) after slot (whole-again .out) start ≡ map told (parted bodies lengths) ++ (done ∷ [])
-    heard-again = followed-is plain (defined plain) (defined-reads plain) (whole-again .readings) after slot (whole-again .out) start ∙ whole-again .hears
+    heard-again : followed (whole-again .readings) (asDefined plain) after slot (whole-again .out) start ≡ map told (parted bodies lengths) ++ (done ∷ [])
+    heard-again = followed-is plain (asDefined plain) (answered (contract (read plain))) (whole-again .readings) after slot (whole-again .out) start ∙ whole-again .hears
 
     module _ (salvager : Reader) (salvages : Reads salvage salvager) (image′ : List ℕ) (hit : ℕ → Bool) (fail : Failed g hit after image′) where
       pub salvages-back-demanded : OfBlocks g hit after (labelAt g after slot) → SalvagedAs salvager g hit after image′ slot (parted bodies lengths)
       salvages-back-demanded =
-          salvager-gives-demanded (defined plain) salvager (defined-reads plain) salvages after image′ g slot (parted bodies lengths) hit stays-accepted
+          salvager-gives-demanded (asDefined plain) salvager (answered (contract (read plain))) salvages after image′ g slot (parted bodies lengths) hit stays-accepted
           (whole-again .readings) (whole-again .out) heard-again fail
 
       pub salvages-back : Spares g hit after (labelAt g after slot) → SalvagedAs salvager g hit after image′ slot (parted bodies lengths)
       salvages-back =
-          salvager-gives (defined plain) salvager (defined-reads plain) salvages after image′ g slot (parted bodies lengths) hit stays-accepted
+          salvager-gives (asDefined plain) salvager (answered (contract (read plain))) salvages after image′ g slot (parted bodies lengths) hit stays-accepted
           (whole-again .readings) (whole-again .out) heard-again fail
 
     -- Every other file is as before: every reading of it by whatever function, its count, its label.
@@ -469,7 +469,7 @@ module _ (w : Writer) (meets : Writes w) where
   no-sounding-as-before r reads = stored-something r reads .0
 
   pub no-keeping-the-image : w (give demo 1 demoBodies demoLengths) .after ≡ demo → ⊥
-  no-keeping-the-image = stored-something (defined plain) (defined-reads plain) .1
+  no-keeping-the-image = stored-something (asDefined plain) (answered (contract (read plain))) .1
 
   -- or one that stores no record, or only the first, as a reader hears it
   pub no-losing-all : (r : Reader) → Reads plain r → followed 3 r (w (give demo 1 demoBodies demoLengths) .after) 1 (replicate 5 255) start ≡ done ∷ [] → ⊥

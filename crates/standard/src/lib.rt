@@ -163,7 +163,7 @@ impl Address {
         self
     }
 
-    // Reading five digits. (The length is asked once, so that no later byte need ask it.)
+    // Reading five digits, the first five bytes of a field. (The length is asked once, so that no later byte need ask it.)
     pub fn read(field: &[u8]) -> FiveDigits
         ensures { λ r. ⌜ r ≡ fiveRead (now (field .entry)) ⌝ }
     {

@@ -83,7 +83,7 @@ pub fn free(image: &[u8]) -> Counted
     Counted::Count(free_in(g, image))
 }
 
-// "the lowest deleted slot", 0 for none. Once the slots have passed 8 to 10, one that has no label is deleted. (Inner, as is the search behind it.)
+// "the lowest deleted slot", 0 for none. Once the slots have passed 8 to 10, one that has no label is deleted. (Inner, on an accepted volume.)
 pub fn lowest_deleted(g: Geometry, image: &[u8]) -> u64
     requires { ⌜ Slotted g (now image) ⌝ }
     ensures { λ r. ⌜ (r ≡ lowestDeleted g (now (image .entry))) × (r ≤ slotCount g) ⌝ }
@@ -147,7 +147,7 @@ fn run_among(g: Geometry, image: &[u8], starts: &[u32; 45], ends: &[u32; 45], n:
 }
 
 // "the lowest free run of n consecutive data addresses", n of at least 1. Each label's addresses are read once, into two rows: a volume has at most 45 slots.
-// The time grows with the labels alone, whatever n is.
+// The time grows with the labels alone, whatever n is. (Inner, on an accepted volume.)
 pub fn lowest_run(g: Geometry, image: &[u8], n: u64) -> Run
     requires { ⌜ (judged (now image) ≡ Judged.Volume g) × (1 ≤ n) ⌝ }
     ensures { λ r. ⌜ r ≡ lowestRun g (now (image .entry)) n ⌝ }
