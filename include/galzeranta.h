@@ -148,7 +148,7 @@ galz_u64 galz_delete(galz_u8 *image, galz_u64 image_length, galz_u64 slot);
  *
  *    1  the image is below 903 bytes
  *    2  sector 05, then 07, has a kind that is not 0                the sector
- *    3  a rule of VOL1 is broken                                    the position
+ *    3  a rule of VOL1 is broken                                    the position: 1, 5, 11, 38, 72, 76, 77, 80, 81, 83, 85 or 89
  *    4  VOL1 11 is not space                                        11
  *    5  the image's length is wrong
  *    6  a sector's kind is not one of its three                     the sector's ordinal, from 0

@@ -4,8 +4,8 @@ use crate::account::List;
 use crate::label::{Entry, Format};
 use crate::make::build::Volume;
 use crate::make::create_cases::FAMILIES;
-use crate::make::fields::{ERMAP, HDR1, VOL1};
 use crate::make::file::FilePlan;
+use crate::make::positions::{judged_in, named_by_10, ERMAP, VOL1};
 use crate::make::{cases, placings, Case};
 use crate::met;
 use crate::met_slots::{self, KEPT, NUMBERS, POSITIONS, REFUSED};
@@ -13,12 +13,14 @@ use crate::model::{answer, Answer, Call};
 use crate::packed::{code, refusal_of, END, GAP};
 use crate::reading::{watched, Event, Events, Place};
 use crate::volume::{judge, label_in};
-use std::collections::BTreeMap;
+use std::collections::{BTreeMap, BTreeSet};
 
 /// How often each thing was reached, in the order of the tables.
 #[derive(Clone, Debug)]
 pub struct Cover {
     tables: Vec<Table>,
+    /// Positions that refusals named and that no table of fields has.
+    unlisted: BTreeSet<String>,
 }
 
 /// A title and how often each row was reached.
@@ -80,9 +82,9 @@ fn answer_tables() -> Vec<Table> {
         table(READINGS, OF_READING),
         table(DONE, done),
         table(SECTORS, [5, 7]),
-        table(OF_VOL1, VOL1),
-        table(OF_ERMAP, ERMAP),
-        table(OF_HDR1, HDR1),
+        table(OF_VOL1, judged_in(&VOL1)),
+        table(OF_ERMAP, judged_in(&ERMAP)),
+        table(OF_HDR1, named_by_10()),
         table(
             LISTS,
             ["VOLUME", "REFUSED", "!17", "!18", "|?|", "TOO LONG"],
@@ -109,7 +111,12 @@ impl Cover {
     pub fn new() -> Cover {
         let mut tables = answer_tables();
         tables.extend(shape_tables());
-        Cover { tables }
+        Cover::of(tables)
+    }
+
+    fn of(tables: Vec<Table>) -> Cover {
+        let unlisted = BTreeSet::new();
+        Cover { tables, unlisted }
     }
 
     /// What creates and deletes reach: every family, refusal, position and
@@ -124,9 +131,7 @@ impl Cover {
             table(DONE, ["create", "delete"]),
             table(OF_CREATING, FAMILIES.map(|family| family.0)),
         ];
-        Cover {
-            tables: tables.chain(others).collect(),
-        }
+        Cover::of(tables.chain(others).collect())
     }
 
     /// What calls of reading, salvage, writing, creating and deleting reach.
@@ -145,7 +150,7 @@ impl Cover {
         let deep = written.chain(placed);
         tables.extend(deep.map(|(title, rows)| table(title, rows.iter().copied())));
         tables.push(table(met_slots::VOLUMES_FIRST, met_slots::volumes_first()));
-        Cover { tables }
+        Cover::of(tables)
     }
 
     /// Counts a row of a table.
@@ -155,6 +160,17 @@ impl Cover {
         if let Some(row) = found.and_then(|table| table.1.get_mut(&key)) {
             *row += 1;
         }
+    }
+
+    /// Counts a position that a refusal named: the first one of a judged
+    /// field, or it is in no table.
+    fn reach_position(&mut self, title: &str, position: u64) {
+        let key = position.to_string();
+        let found = self.tables.iter().find(|table| table.0 == title);
+        if found.is_some_and(|table| !table.1.contains_key(&wide(&key))) {
+            self.unlisted.insert(format!("{title}: {key}"));
+        }
+        self.reach(title, &key);
     }
 
     /// Counts a case and its answer.
@@ -241,9 +257,9 @@ impl Cover {
         self.reach(REFUSALS, &refused.number.to_string());
         match refused.number {
             2 => self.reach(SECTORS, &refused.first.to_string()),
-            3 => self.reach(OF_VOL1, &refused.first.to_string()),
-            7 => self.reach(OF_ERMAP, &refused.first.to_string()),
-            10 if refused.first > 0 => self.reach(OF_HDR1, &refused.second.to_string()),
+            3 => self.reach_position(OF_VOL1, refused.first),
+            7 => self.reach_position(OF_ERMAP, refused.first),
+            10 if refused.first > 0 => self.reach_position(OF_HDR1, refused.second),
             _ => {}
         }
     }
@@ -333,6 +349,11 @@ impl Cover {
             _ => "R",
         };
         self.reach(BLOCKS, record);
+    }
+
+    /// Positions that were named and should not have been.
+    pub fn unlisted(&self) -> impl Iterator<Item = &String> {
+        self.unlisted.iter()
     }
 
     /// What was never reached.

@@ -154,7 +154,10 @@ fn show_cover(seed: u64, count: usize) -> ExitCode {
     for missing in cover.missing() {
         println!("never reached: {missing}");
     }
-    if cover.missing().is_empty() {
+    for unlisted in cover.unlisted() {
+        println!("no judged field: {unlisted}");
+    }
+    if cover.missing().is_empty() && cover.unlisted().next().is_none() {
         ExitCode::SUCCESS
     } else {
         ExitCode::FAILURE

@@ -3,6 +3,7 @@
 
 use crate::make::cases;
 use crate::make::sample::{named, NAMES};
+use crate::make::version::{old_form, small_samples};
 use crate::options::{Options, SEED, SHOWN};
 use std::io::Write;
 use std::process::{Command, ExitCode, Stdio};
@@ -13,9 +14,10 @@ const MOST_SHOWN: usize = 4_000;
 /// Images a little above the longest that the programs take, 65,536 bytes.
 const LARGEST: usize = 70_000;
 
-/// Runs the command behind `--` once for each image, the samples and those of
-/// so many drawn cases, and compares what it writes with what is right, which
-/// may hang on further options.
+/// Runs the command behind `--` once for each image, the samples, the small
+/// ones in the form before request 2026-02 too, and those of so many drawn
+/// cases, and compares what it writes with what is right, which may hang on
+/// further options.
 pub fn compared(
     help: &str,
     further: &[(&'static str, u64)],
@@ -50,8 +52,9 @@ fn images(options: &Options) -> impl Iterator<Item = (String, Vec<u8>)> {
     let samples = NAMES
         .iter()
         .map(|name| (format!("sample {name}"), named(name).unwrap_or_default()));
+    let old = small_samples().map(|(name, image)| (format!("old {name}"), old_form(&image)));
     let drawn = cases(seed, options.count("count"), LARGEST).enumerate();
-    samples.chain(drawn.map(move |(number, case)| {
+    samples.chain(old).chain(drawn.map(move |(number, case)| {
         (
             format!("seed {seed}, case {number}, family {}", case.family),
             case.image,

@@ -2,10 +2,12 @@
 
 use crate::account::{self, Ground, List};
 use crate::file::count;
+use crate::label::{level, Level};
 use crate::layout::Geometry;
 use crate::make::build::{volume, Volume};
 use crate::make::create_cases::right_fields;
 use crate::make::file::{FilePlan, Want};
+use crate::make::positions::{free_in, of_another_level, Field, ERMAP, HDR1, VOL1};
 use crate::make::read_cases::lose;
 use crate::make::rng::Rng;
 use crate::make::volume_cases::Made;
@@ -16,13 +18,14 @@ use crate::reading::{read, salvage, Place, Reading};
 use crate::refusal::Refusal;
 use crate::slots::{self, Held};
 use crate::text::address;
-use crate::volume::{judge, label_in};
+use crate::volume::{judge, label_in, ERMAP_ORDINAL, LEAST_IMAGE, VOL1_ORDINAL};
 
 type Property = (&'static str, fn(u64, usize, usize) -> Result<(), String>);
 
 /// Every property with its name.
-pub const PROPERTIES: [Property; 13] = [
+pub const PROPERTIES: [Property; 14] = [
     ("lent bytes stay", lent_bytes),
+    ("what is not judged decides nothing", unjudged),
     ("read-back", read_back),
     ("every write is accounted for", accounted),
     ("a write minds no old contents", old_contents),
@@ -92,6 +95,49 @@ pub fn lent_bytes_stay(case: &Case) -> Result<(), String> {
         }
         _ => ensure(given.image == case.image, || "image changed".to_string()),
     }
+}
+
+/// Any bytes where a label's fields take them.
+fn soil(rng: &mut Rng, image: &mut [u8], ordinal: usize, fields: &[Field]) {
+    let label = Geometry::index_body_mut(image, ordinal);
+    for position in free_in(fields) {
+        label[position - 1] = rng.telling_bytes(1)[0];
+    }
+}
+
+/// The same in ERMAP, VOL1 and the labels of an accepted volume.
+fn soiled(rng: &mut Rng, image: &[u8]) -> Vec<u8> {
+    let mut other = image.to_vec();
+    soil(rng, &mut other, ERMAP_ORDINAL, &ERMAP);
+    soil(rng, &mut other, VOL1_ORDINAL, &VOL1);
+    let slots = judge(image).map_or(0, |geometry| geometry.slots());
+    for slot in 1..=slots {
+        let fields = match label_in(image, slot).map(level) {
+            None => continue,
+            Some(Some(Level::Other)) => of_another_level(),
+            Some(_) => HDR1.to_vec(),
+        };
+        soil(rng, &mut other, Geometry::slot_ordinal(slot), &fields);
+    }
+    other
+}
+
+/// "Other positions are not judged.": whatever stands there, every call
+/// answers the same and leaves it.
+fn unjudged(seed: u64, index: usize, largest: usize) -> Result<(), String> {
+    let Case { image, call, .. } = case(seed, index, largest);
+    if image.len() < LEAST_IMAGE {
+        return Ok(());
+    }
+    let other = soiled(&mut Rng::for_case(seed ^ 0xF, index as u64), &image);
+    let (one, two) = (answer(&image, &call), answer(&other, &call));
+    let same = one.packed == two.packed && one.out == two.out;
+    ensure(same, || "answers differ".to_string())?;
+    let mut left = one.image;
+    for at in (0..image.len()).filter(|&at| image[at] != other[at]) {
+        left[at] = other[at];
+    }
+    ensure(left == two.image, || "other bytes are left".to_string())
 }
 
 /// Good records of the file in a slot and its m, by a count of its own.

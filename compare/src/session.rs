@@ -110,6 +110,19 @@ impl Session {
         Ok(())
     }
 
+    /// The same of cases with the number that is right, so that a fault that
+    /// both programs share shows as well.
+    pub fn compare_told(&mut self, cases: impl Iterator<Item = (Case, u64)>) -> io::Result<()> {
+        for (case, right) in cases.filter(|told| knows(&told.0.call)) {
+            let held = match self.compare(&case)? {
+                Some(is) if is != right => Err(format!("{is:#018x}, not {right:#018x}")),
+                _ => Ok(()),
+            };
+            self.demand(&case, held);
+        }
+        Ok(())
+    }
+
     fn count(&mut self, case: &Case, outcome: &Outcome) {
         let [image, out, _] = &outcome.lent;
         let (call, returned) = (&case.call, outcome.returned);

@@ -26,7 +26,7 @@ fn base() -> Plain {
 const FAULTS: [fn(&mut Plain); 12] = [
     |plain| plain.image.truncate(902),
     |plain| plain.image[6 * 129] = 32,
-    |plain| plain.set_sector(7, 79, b"2"),
+    |plain| plain.set_sector(7, 80, b"2"),
     |plain| plain.set_sector(7, 11, b"X"),
     |plain| plain.image.push(0),
     |plain| plain.set_kind("01009", 1),

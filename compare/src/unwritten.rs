@@ -34,7 +34,7 @@ const VOLUME_FAULTS: [fn(&mut Plain); 16] = [
     |plain| plain.image.truncate(902),
     |plain| plain.image[4 * 129] = 16,
     |plain| plain.image[6 * 129] = 32,
-    |plain| plain.set_sector(7, 79, b"2"),
+    |plain| plain.set_sector(7, 80, b"2"),
     |plain| plain.set_sector(7, 11, b"X"),
     |plain| plain.image.push(0),
     |plain| plain.image.truncate(plain.image.len() - 1),

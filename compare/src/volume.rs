@@ -10,7 +10,7 @@ pub const ERMAP_ORDINAL: usize = 4;
 pub const VOL1_ORDINAL: usize = 6;
 
 /// "1 | image below 903 bytes": the seven sectors that end with VOL1.
-const LEAST_IMAGE: usize = 7 * INDEX_SECTOR;
+pub const LEAST_IMAGE: usize = 7 * INDEX_SECTOR;
 
 /// "Volume order is 1 to 12, slots checked one by one through 8, 9, 10."
 pub fn judge(image: &[u8]) -> Result<Geometry, Refusal> {
@@ -68,6 +68,8 @@ fn interleave_kept(label: &[u8]) -> bool {
 /// "VOL1: 1-4 `VOL1`; 5-10, 11, 38-51 in the a-set; 72 `A`; 76 space, 1, 2,
 /// 3 for P = 128, 256, 512, 1024; 77-78 spaces or 01-13; 79 `3`; 81-82 hex
 /// L, 1-96; 83-84 hex I, 8-26; 85-86 hex D, 1-26; 89 hex S, 1-2."
+/// Request 2026-02 moves the version digit: "Position 80 must be `3`; 79
+/// becomes reserved and is not judged." So 80 stands where document 01 has 79.
 /// "In all three labels a fault is reported at its field's first position,
 /// the lowest first." Then "4 | VOL1 11 not space".
 fn judge_vol1(label: &[u8]) -> Result<Geometry, Refusal> {
@@ -84,7 +86,7 @@ fn judge_vol1(label: &[u8]) -> Result<Geometry, Refusal> {
         (72, character(label, 72) == b'A'),
         (76, k.is_some()),
         (77, interleave_kept(label)),
-        (79, character(label, 79) == b'3'),
+        (80, character(label, 80) == b'3'),
         (81, l.is_some()),
         (83, i.is_some()),
         (85, d.is_some()),

@@ -54,7 +54,7 @@ fn check_prints_a_count_per_property() {
     let checked = run(&["check", "--seed", "9", "--count", "200"], b"");
     assert!(checked.status.success());
     let text = String::from_utf8(checked.stdout).expect("text");
-    assert_eq!(text.lines().count(), 13);
+    assert_eq!(text.lines().count(), 14);
     assert!(text.lines().all(|line| line.ends_with(" 200")));
 }
 

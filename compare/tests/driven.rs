@@ -32,6 +32,7 @@ fn the_program_itself_behind_a_pipe_differs_nowhere() {
     assert!(text.ends_with(" passed, 0 failed\n"));
     assert!(!text.contains("DIFFERENT"));
     for stage in [
+        "version",
         "followed",
         "salvaged",
         "broken",
@@ -96,21 +97,21 @@ fn a_driver_that_ends_early_is_a_failure() {
 fn the_listing_is_compared_byte_for_byte() {
     let right = run(LISTED, &["--count", "20", "--", COMPARE, "listing"]);
     assert!(right.status.success());
-    assert!(text(&right).ends_with("31 passed, 0 failed\n"));
+    assert!(text(&right).ends_with("76 passed, 0 failed\n"));
     let wrong = run(LISTED, &["--count", "20", "--", COMPARE, "--help"]);
     assert_eq!(wrong.status.code(), Some(1));
-    assert!(text(&wrong).ends_with("0 passed, 31 failed\n"));
+    assert!(text(&wrong).ends_with("0 passed, 76 failed\n"));
     assert_eq!(run(LISTED, &["--count"]).status.code(), Some(2));
 }
 
 #[test]
 fn what_is_too_long_for_the_listing_is_said() {
     let longer = ["--count", "0", "--most", "100000", "--", COMPARE, "listing"];
-    assert!(text(&run(LISTED, &longer)).ends_with("11 passed, 0 failed\n"));
+    assert!(text(&run(LISTED, &longer)).ends_with("56 passed, 0 failed\n"));
     let all = [
         "--count", "0", "--most", "6000000", "--", COMPARE, "listing",
     ];
-    assert!(text(&run(LISTED, &all)).ends_with("7 passed, 4 failed\n"));
+    assert!(text(&run(LISTED, &all)).ends_with("52 passed, 4 failed\n"));
 }
 
 #[test]

@@ -13,7 +13,9 @@ const SEED: u64 = 28_081;
 
 #[test]
 fn every_refusal_answer_position_and_shape_is_reached() {
-    assert_eq!(cover(SEED, 20_000, 70_000).missing(), Vec::<String>::new());
+    let reached = cover(SEED, 20_000, 70_000);
+    assert_eq!(reached.missing(), Vec::<String>::new());
+    assert_eq!(reached.unlisted().next(), None);
 }
 
 #[test]
@@ -45,7 +47,7 @@ fn counted_cases_keep_lent_bytes_and_are_many() {
     assert_eq!(number, COUNTED);
 }
 
-const COUNTED: usize = 311_058;
+const COUNTED: usize = 321_280;
 
 #[test]
 fn the_first_cases_touch_every_family() {
@@ -99,14 +101,14 @@ fn the_same_seed_gives_the_same_cases_on_every_machine() {
     );
 }
 
-const DIGEST: u64 = 5_447_709_138_830_121_824;
+const DIGEST: u64 = 8_265_344_272_794_446_410;
 
 #[test]
 fn creates_and_deletes_are_the_same_on_every_machine() {
     assert_eq!(digest(placings(SEED, 300, 6_000)), DIGEST_OF_CREATING);
 }
 
-const DIGEST_OF_CREATING: u64 = 12_760_141_207_822_259_047;
+const DIGEST_OF_CREATING: u64 = 7_379_813_559_426_521_422;
 
 /// Every call on an image, with numbers of any size.
 fn call_all(rng: &mut Rng, image: &[u8]) {

@@ -1,10 +1,13 @@
-//! Readings 1 to 4 and 8: volumes, labels, slots, finding.
+//! Readings 1 to 4 and 8: volumes, labels, slots, finding; 02.1 to 02.7 of
+//! request 2026-02.
 
 mod common;
 
 use common::{base, fault, refusal, shaped};
+use compare::make::positions::{field_at, judged_in, Class, VOL1};
+use compare::make::sample;
 use compare::make::sample::{hdr1, Plain};
-use compare::{count, find, free, judge, Refusal};
+use compare::{count, find, free, judge, listing, Refusal};
 
 #[test]
 fn r1_1_a_wrong_fourth_byte_of_vol1_is_reported_at_position_1() {
@@ -18,8 +21,8 @@ fn r1_2_all_of_vol1_is_judged_for_3_before_4_is_given() {
     let mut plain = base();
     plain.set_sector(7, 11, b"X");
     assert_eq!(refusal(&plain), Some(Refusal::at(4, 11)));
-    plain.set_sector(7, 79, b"2");
-    assert_eq!(refusal(&plain), Some(Refusal::at(3, 79)));
+    plain.set_sector(7, 80, b"2");
+    assert_eq!(refusal(&plain), Some(Refusal::at(3, 80)));
     plain.set_sector(7, 11, b"@");
     assert_eq!(refusal(&plain), Some(Refusal::at(3, 11)));
 }
@@ -103,6 +106,104 @@ fn r1_8_to_1_10_hex_digits_interleave_and_size_of_vol1() {
     plain.set_sector(7, 77, b"13");
     plain.set_sector(7, 87, b"\xFF\xFF");
     assert_eq!(refusal(&plain), None);
+}
+
+/// Sets positions of VOL1 and names the fault.
+fn with_vol1(fields: &[(usize, &[u8])]) -> Option<Refusal> {
+    let mut plain = base();
+    for (position, bytes) in fields {
+        plain.set_sector(7, *position, bytes);
+    }
+    refusal(&plain)
+}
+
+#[test]
+fn r02_1_the_byte_at_80_is_3_and_no_other_place_will_do() {
+    for byte in 0..=255u8 {
+        let wrong = (byte != b'3').then_some(Refusal::at(3, 80));
+        assert_eq!(with_vol1(&[(80, &[byte])]), wrong);
+    }
+    assert_eq!(with_vol1(&[(79, b"3 ")]), Some(Refusal::at(3, 80)));
+}
+
+#[test]
+fn r02_2_any_byte_at_79_is_accepted() {
+    for byte in 0..=255u8 {
+        assert_eq!(with_vol1(&[(79, &[byte, b'3'])]), None);
+    }
+}
+
+#[test]
+fn r02_3_80_stands_between_77_and_81_and_79_is_never_named() {
+    let named = [1, 5, 11, 38, 72, 76, 77, 80, 81, 83, 85, 89];
+    assert_eq!(judged_in(&VOL1), named);
+    for position in named {
+        let one = with_vol1(&[(position, b"\0")]);
+        assert_eq!(one, Some(Refusal::at(3, position)));
+        let two = with_vol1(&[(position, b"\0"), (80, b" ")]);
+        assert_eq!(two, Some(Refusal::at(3, position.min(80))));
+    }
+    assert_eq!(
+        with_vol1(&[(77, b"14"), (79, b"3 ")]),
+        Some(Refusal::at(3, 77))
+    );
+    assert_eq!(
+        with_vol1(&[(79, b"3 "), (81, b"61")]),
+        Some(Refusal::at(3, 80))
+    );
+}
+
+#[test]
+fn r02_4_nothing_else_changes() {
+    assert_eq!(
+        with_vol1(&[(11, b"X"), (80, b"2")]),
+        Some(Refusal::at(3, 80))
+    );
+    assert_eq!(with_vol1(&[(11, b"X")]), Some(Refusal::at(4, 11)));
+    let mut plain = base();
+    plain.set_sector(7, 80, b"2");
+    plain.set_sector(6, 0, &[48]);
+    plain.image.push(0);
+    assert_eq!(refusal(&plain), Some(Refusal::at(3, 80)));
+    plain.set_sector(7, 0, &[16]);
+    assert_eq!(refusal(&plain), Some(Refusal::at(2, 7)));
+    plain.image.truncate(902);
+    assert_eq!(refusal(&plain), Some(Refusal::at(1, 0)));
+}
+
+#[test]
+fn r02_5_the_space_of_two_plants_at_79_is_no_rule() {
+    let mut plain = base();
+    let judged = judge(&plain.image).expect("accepted");
+    for pair in [b" 3", b"33", b"X3", b"\x003", b"\xFF3"] {
+        plain.set_sector(7, 79, pair);
+        assert_eq!(judge(&plain.image), Ok(judged));
+    }
+}
+
+#[test]
+fn r02_6_79_is_the_reserve_and_80_the_version_the_fields_beside_them_stay() {
+    let of = |position| field_at(&VOL1, position).expect("a field");
+    assert_eq!(
+        [of(78), of(79), of(80), of(81)].map(|field| (field.first, field.last, field.class)),
+        [
+            (77, 78, Class::Judged),
+            (79, 79, Class::Reserved),
+            (80, 80, Class::Judged),
+            (81, 82, Class::Judged),
+        ]
+    );
+}
+
+#[test]
+fn r02_7_the_sample_has_a_space_at_79_and_3_at_80_and_lists_the_same() {
+    let image = sample();
+    assert_eq!(image.len(), 9_546);
+    assert_eq!(&image[6 * 129 + 79..6 * 129 + 81], b" 3");
+    let text = "VOLUME DEMO01 L=5 I=10 D=8 P=128 S=1 FREE=16\n\
+        1|PARTS            |.|F|-|128|128|01001|01008|3|0\n\
+        3|LOG              |2|V|B|256|100|02001|03008|2|56\n";
+    assert_eq!(String::from_utf8_lossy(&listing(&image)), text);
 }
 
 /// Sets fields of slot 1 and names the fault.

@@ -62,10 +62,10 @@ const char *field(const galz_u8 *label, unsigned position);
 bool is_known(const galz_u8 *label);
 
 /* refusals.c */
-/* says a refusal on standard error: number, places, what is wrong */
-enum status say_refusal(galz_u64 answer);
-/* the same of creating so many records on an accepted volume that has so many free: 10 and 12 speak of the label to be made */
-enum status say_unmade(galz_u64 answer, galz_u64 records, galz_u64 vacant);
+/* says a refusal of a call on an image on standard error: number, places, what is wrong */
+enum status say_refusal(const struct bytes *image, galz_u64 answer);
+/* the same of creating so many records on an accepted volume: 10 and 12 speak of the label to be made */
+enum status say_unmade(const struct bytes *image, galz_u64 answer, galz_u64 records);
 /* whether a refusal has a second place */
 bool has_second_place(galz_u64 answer);
 

@@ -49,7 +49,7 @@ enum status find_slot(const struct bytes *image, const struct words *words, galz
 		return DONE;
 	galz_u64 found = find_name(image, words->file);
 	if (galz_refused(found))
-		return say_refusal(found);
+		return say_refusal(image, found);
 	*slot = galz_slot(found);
 	return DONE;
 }

@@ -25,10 +25,10 @@ enum status create_file(struct bytes *image, const struct words *words)
 {
 	galz_u64 volume = galz_judge(image->at, image->length);
 	if (galz_refused(volume))
-		return say_refusal(volume);
+		return say_refusal(image, volume);
 	galz_u64 created = create(image, words), slot = galz_slot(created);
 	if (galz_refused(created))
-		return say_unmade(created, words->records, galz_number(galz_free(image->at, image->length)));
+		return say_unmade(image, created, words->records);
 	enum status status = store_image(image, words);
 	if (status == DONE) {
 		printf("slot %llu\nstart %05llu\nend %.5s\n", slot, galz_start(created), field(image->at + galz_slot_offset(slot), 35));
@@ -45,7 +45,7 @@ enum status delete_file(struct bytes *image, const struct words *words)
 		return status;
 	galz_u64 freed = galz_delete(image->at, image->length, slot);
 	if (galz_refused(freed))
-		return say_refusal(freed);
+		return say_refusal(image, freed);
 	status = store_image(image, words);
 	if (status == DONE)
 		printf("freed %llu\n", galz_number(freed));

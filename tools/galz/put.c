@@ -24,7 +24,7 @@ static enum status write_records(struct bytes *image, galz_u64 slot, const struc
 {
 	galz_u64 written = galz_write(image->at, image->length, slot, records->bodies, records->length, records->lengths, records->count);
 	if (galz_refused(written))
-		return say_refusal(written);
+		return say_refusal(image, written);
 	enum status status = store_image(image, words);
 	if (status == DONE)
 		say("records %zu, bytes %zu, blocks %llu", records->count, records->length, galz_number(written));

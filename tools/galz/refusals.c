@@ -15,7 +15,7 @@ static const struct field vol1[] = {
 	{ 72, "the type of recording, A" },
 	{ 76, "the code of the physical record's length P" },
 	{ 77, "the sequence of sectors" },
-	{ 79, "the version of the standard, 3" },
+	{ 80, "the version of the standard, 3" },
 	{ 81, "the last data cylinder L" },
 	{ 83, "the last sector of an index side I" },
 	{ 85, "the last sector of a data side D" },
@@ -120,21 +120,28 @@ static const char *field_at(const struct field *fields, galz_u64 position)
 	return NULL;
 }
 
-static enum status say_in_words(galz_u64 answer, const struct refusal *refusal)
+/* Request 2026-02: a label made by the numbers of table 2 as printed, which have the version before the reserve. VOL1 stands right before slot 1; 3 is given behind 1. */
+static const char *hint_at(const struct bytes *image, galz_u64 answer)
 {
-	const char *field = field_at(refusal->fields, refusal->second ? galz_second(answer) : galz_first(answer));
+	bool version = galz_code(answer) == 3 && galz_first(answer) == 80;
+	return version && *field(image->at + galz_slot_offset(0), 79) == '3' ? " (3 stands at 79, where table 2 as printed has it)" : "";
+}
+
+static enum status say_in_words(const struct bytes *image, galz_u64 answer, const struct refusal *refusal)
+{
+	const char *name = field_at(refusal->fields, refusal->second ? galz_second(answer) : galz_first(answer));
 	char places[100] = "";
 	if (refusal->second)
 		snprintf(places, sizeof places, " (%s %llu, %s %llu)", refusal->first, galz_first(answer), refusal->second, galz_second(answer));
 	else if (refusal->first)
 		snprintf(places, sizeof places, " (%s %llu)", refusal->first, galz_first(answer));
-	say("refused %u%s: %s%s%s", galz_code(answer), places, refusal->wrong, field ? ": " : "", field ? field : "");
+	say("refused %u%s: %s%s%s%s", galz_code(answer), places, refusal->wrong, name ? ": " : "", name ? name : "", hint_at(image, answer));
 	return REFUSED;
 }
 
-enum status say_refusal(galz_u64 answer) { return say_in_words(answer, refusal_of(answer)); }
+enum status say_refusal(const struct bytes *image, galz_u64 answer) { return say_in_words(image, answer, refusal_of(answer)); }
 
-enum status say_unmade(galz_u64 answer, galz_u64 records, galz_u64 vacant)
+enum status say_unmade(const struct bytes *image, galz_u64 answer, galz_u64 records)
 {
 	struct refusal refusal = *refusal_of(answer);
 	char wrong[100];
@@ -148,9 +155,9 @@ enum status say_unmade(galz_u64 answer, galz_u64 records, galz_u64 vacant)
 		refusal.wrong = wrong;
 		break;
 	case 29:
-		snprintf(wrong, sizeof wrong, "no %llu free records in a row (%llu are free in all)", records, vacant);
+		snprintf(wrong, sizeof wrong, "no %llu free records in a row (%llu are free in all)", records, galz_number(galz_free(image->at, image->length)));
 		refusal.wrong = wrong;
 		break;
 	}
-	return say_in_words(answer, &refusal);
+	return say_in_words(image, answer, &refusal);
 }

@@ -41,7 +41,7 @@ enum status judge(struct bytes *image, const struct words *words)
 	(void)words;
 	galz_u64 volume = galz_judge(image->at, image->length);
 	if (galz_refused(volume))
-		return say_refusal(volume);
+		return say_refusal(image, volume);
 	printf("volume %.6s\n", volume_name(image));
 	printf("L %u\nI %u\nD %u\nP %u\nS %u\n", galz_cylinders(volume), galz_index_sectors(volume), galz_sectors(volume), galz_record_bytes(volume),
 	       galz_sides(volume));
@@ -72,13 +72,13 @@ static void list_other(unsigned slot, const galz_u8 *label)
 }
 
 /* "A refused volume prints one line: `REFUSED`, number and each place, one space between." */
-static enum status list_refusal(galz_u64 answer)
+static enum status list_refusal(const struct bytes *image, galz_u64 answer)
 {
 	printf("REFUSED %u %llu", galz_code(answer), galz_first(answer));
 	if (has_second_place(answer))
 		printf(" %llu", galz_second(answer));
 	printf("\n");
-	return say_refusal(answer);
+	return say_refusal(image, answer);
 }
 
 enum status list(struct bytes *image, const struct words *words)
@@ -86,7 +86,7 @@ enum status list(struct bytes *image, const struct words *words)
 	(void)words;
 	galz_u64 volume = galz_judge(image->at, image->length);
 	if (galz_refused(volume))
-		return list_refusal(volume);
+		return list_refusal(image, volume);
 	printf("VOLUME %.6s L=%u I=%u D=%u P=%u S=%u FREE=%llu\n", volume_name(image), galz_cylinders(volume), galz_index_sectors(volume),
 	       galz_sectors(volume), galz_record_bytes(volume), galz_sides(volume), galz_number(galz_free(image->at, image->length)));
 	for (unsigned slot = 1; slot <= galz_slots(volume); slot++) {

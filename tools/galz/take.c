@@ -31,7 +31,7 @@ static enum status pour(const struct bytes *image, galz_u64 slot, const struct w
 		if (galz_is_end(answer))
 			return DONE;
 		if (galz_refused(answer))
-			return say_refusal(tally->refusal = answer);
+			return say_refusal(image, tally->refusal = answer);
 		block = galz_next_block(answer), offset = galz_next_offset(answer), mark = galz_next_mark(answer);
 		if (galz_is_gap(answer)) {
 			say("gap: block %llu is lost (records so far %llu)", block - 1, tally->records);
@@ -146,7 +146,7 @@ enum status extract_all(struct bytes *image, const struct words *words)
 	galz_u64 volume = galz_judge(image->at, image->length);
 	enum status worst = DONE;
 	if (galz_refused(volume))
-		return say_refusal(volume);
+		return say_refusal(image, volume);
 	if (!make_folder(words->host))
 		return host_error(words->host);
 	for (unsigned slot = 1; slot <= galz_slots(volume); slot++) {

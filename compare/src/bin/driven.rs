@@ -6,7 +6,7 @@ use compare::make::build::plain_geometry;
 use compare::make::create_cases::right_fields;
 use compare::make::rng::Rng;
 use compare::make::sample::{named, NAMES};
-use compare::make::{bad::bad, cases, counted, Case};
+use compare::make::{bad::bad, cases, counted, version, Case};
 use compare::options::{Options, SEED};
 use compare::session::Session;
 use compare::{created, edges, follow, judge, odd, uncreated, unwritten, written, Call};
@@ -19,7 +19,8 @@ driven [--seed N] [--count N] [--largest BYTES] [--every N] -- COMMAND..
 Runs the driver by COMMAND and compares with it
 - the samples, up to the largest volume, and so many drawn cases, with images of at most so many bytes, each asked for
   its judgement, its free records, blocks of slots, files of names, a create, a delete and what the case itself asks;
-- of the cases that are counted out, one of every N;
+- of the cases that are counted out, one of every N; all of those of the version digit, positions 79 and 80 of VOL1, each
+  with the number that is right;
 - bad input: random bytes, a volume cut to every length, every value of every
   byte of its VOL1 and ERMAP sectors;
 - whole files, plainly and in salvage, by following the places that the library gives: of N/2 sound volumes, of N/4 with
@@ -101,6 +102,7 @@ fn volumes(session: &mut Session, options: &Options) -> io::Result<()> {
     })?;
     session.stage("drawn", |on| on.compare_all(drawn))?;
     session.stage("counted", |on| on.compare_all(some))?;
+    session.stage("version", |on| on.compare_told(version::told()))?;
     session.stage("bad", |on| on.compare_all(bad(seed, count)))
 }
 

@@ -8,7 +8,8 @@ use std::process::ExitCode;
 const HELP: &str = "\
 followed [--seed N] [--count N] -- COMMAND..
 
-Runs COMMAND once for each image, the samples and those of so many drawn
+Runs COMMAND once for each image, the samples, the small ones also with the
+version digit at 79 as before request 2026-02, and those of so many drawn
 cases, and compares what it writes. The last line is 'N passed, M failed'.
 ";
 

@@ -1,6 +1,7 @@
 //! Healthy volumes of every geometry.
 
 use super::file::{other_label, plan_file, FilePlan, Want};
+use super::positions::{draw_label, ERMAP, VOL1};
 use super::rng::Rng;
 use crate::layout::{Geometry, INDEX_SECTOR};
 use crate::text::address_digits;
@@ -111,37 +112,45 @@ pub fn with_defects(rng: &mut Rng, mut geometry: Geometry) -> Geometry {
     geometry
 }
 
-fn vol1(rng: &mut Rng, geometry: &Geometry) -> Vec<u8> {
-    let mut label = rng.telling_bytes(128);
-    label[0..4].copy_from_slice(b"VOL1");
-    for place in (4..10).chain(37..51) {
-        label[place] = rng.a_character();
-    }
-    label[10] = b' ';
-    label[71] = b'A';
-    label[75] = b" 123"[geometry.k as usize];
-    let interleave = match rng.below(3) {
-        0 => "  ".to_string(),
-        _ => format!("{:02}", rng.between(1, 13)),
+/// What stands in a judged field of VOL1 where the geometry leaves no choice.
+pub fn vol1_of(geometry: &Geometry, position: usize) -> Option<Vec<u8>> {
+    let hex = |number: usize| format!("{number:02X}").into_bytes();
+    Some(match position {
+        1 => b"VOL1".to_vec(),
+        72 => b"A".to_vec(),
+        76 => vec![b" 123"[geometry.k as usize]],
+        80 => b"3".to_vec(),
+        81 => hex(geometry.l),
+        83 => hex(geometry.i),
+        85 => hex(geometry.d),
+        89 => vec![b'0' + geometry.s as u8],
+        _ => return None,
+    })
+}
+
+/// What stands in a judged field of ERMAP.
+pub fn ermap_of(geometry: &Geometry, position: usize) -> Option<Vec<u8>> {
+    let cylinder = match position {
+        1 => return Some(b"ERMAP".to_vec()),
+        7 => geometry.d1,
+        _ => geometry.d2,
     };
-    label[76..78].copy_from_slice(interleave.as_bytes());
-    label[78] = b'3';
-    let numbers = format!("{:02X}{:02X}{:02X}", geometry.l, geometry.i, geometry.d);
-    label[80..86].copy_from_slice(numbers.as_bytes());
-    label[88] = b'0' + geometry.s as u8;
-    label
+    cylinder.map(|cylinder| format!("{cylinder:02}0").into_bytes())
+}
+
+fn vol1(rng: &mut Rng, geometry: &Geometry) -> Vec<u8> {
+    draw_label(rng, &VOL1, |rng, field| match field.first {
+        5 | 38 => rng.a_characters(field.length()),
+        77 if rng.below(3) > 0 => format!("{:02}", rng.between(1, 13)).into_bytes(),
+        // 11 is a space, and 77-78 now and then.
+        position => vol1_of(geometry, position).unwrap_or_else(|| field.spaces()),
+    })
 }
 
 fn ermap(rng: &mut Rng, geometry: &Geometry) -> Vec<u8> {
-    let mut label = rng.telling_bytes(128);
-    label[0..5].copy_from_slice(b"ERMAP");
-    let field = |cylinder: Option<usize>| match cylinder {
-        Some(cylinder) => format!("{cylinder:02}0"),
-        None => "   ".to_string(),
-    };
-    label[6..9].copy_from_slice(field(geometry.d1).as_bytes());
-    label[10..13].copy_from_slice(field(geometry.d2).as_bytes());
-    label
+    draw_label(rng, &ERMAP, |_, field| {
+        ermap_of(geometry, field.first).unwrap_or_else(|| field.spaces())
+    })
 }
 
 /// All sectors with legal kinds, VOL1 and ERMAP, every slot deleted. Data

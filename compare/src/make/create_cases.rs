@@ -5,6 +5,7 @@ use super::build::{volume, Volume};
 use super::fields::hdr1_value;
 use super::file::{draw_fields, Want};
 use super::file_cases::wrong_mark;
+use super::positions::{field_at, Field, HDR1};
 use super::rng::Rng;
 use super::volume_cases as volumes;
 use super::volume_cases::Made;
@@ -12,6 +13,7 @@ use super::Family;
 use crate::layout::Geometry;
 use crate::model::Call;
 use crate::slots::Held;
+use std::ops::Range;
 
 /// The families of creating and deleting. They are numbered by themselves, so
 /// that the cases of the others stay what they were.
@@ -33,15 +35,17 @@ pub const FAMILIES: [Family; 15] = [
     ("delete-refused-volume", delete_refused_volume),
 ];
 
-/// Where a field begins in the 29 bytes, and how long it is.
-pub const PLACES: [(usize, usize, usize); 6] = [
-    (6, 0, 17),
-    (23, 17, 5),
-    (40, 22, 1),
-    (44, 23, 1),
-    (54, 24, 4),
-    (63, 28, 1),
-];
+/// "the 29 bytes of label fields 6-22, 23-27, 40, 44, 54-57, 63": their first
+/// positions, in that order.
+const TOLD: [usize; 6] = [6, 23, 40, 44, 54, 63];
+
+/// Where the field of a position stands in the 29 bytes.
+fn place(position: usize) -> Range<usize> {
+    let length = |told: usize| field_at(&HDR1, told).map_or(0, Field::length);
+    let before = TOLD.into_iter().filter(|told| *told < position);
+    let at: usize = before.map(length).sum();
+    at..at + length(position)
+}
 
 fn drawn(rng: &mut Rng, largest: usize) -> Volume {
     let made = volume(rng, largest, Want::default());
@@ -126,14 +130,11 @@ fn create_n(rng: &mut Rng, largest: usize) -> Made {
 /// Puts a value, broken or at a bound, into one field.
 fn change(rng: &mut Rng, made: &Volume, fields: &mut [u8], position: usize) {
     let value = hdr1_value(rng, made, made.main().slot, position);
-    let found = PLACES.iter().find(|place| place.0 == position);
-    if let Some(&(_, at, length)) = found {
-        fields[at..at + length].copy_from_slice(&value);
-    }
+    fields[place(position)].copy_from_slice(&value);
 }
 
 fn some_position(rng: &mut Rng) -> usize {
-    rng.pick(&PLACES).0
+    rng.pick(&TOLD)
 }
 
 fn create_field(rng: &mut Rng, largest: usize) -> Made {

@@ -1,19 +1,10 @@
-//! Values for the fields of labels: broken ones, and legal ones at bounds.
+//! Values for the fields of labels: broken ones, legal ones at bounds, and any
+//! bytes where no rule judges them.
 
 use super::build::Volume;
+use super::positions::{field_at, Field, ERMAP, HDR1, VOL1};
 use super::rng::Rng;
 use crate::layout::Geometry;
-
-/// First positions of VOL1's judged fields.
-pub const VOL1: [usize; 12] = [1, 5, 11, 38, 72, 76, 77, 79, 81, 83, 85, 89];
-
-/// First positions of ERMAP's judged fields.
-pub const ERMAP: [usize; 3] = [1, 7, 11];
-
-/// First positions of HDR1's judged fields but 1, which is refusal 9.
-pub const HDR1: [usize; 19] = [
-    6, 23, 29, 35, 40, 41, 42, 43, 44, 45, 46, 48, 54, 58, 63, 64, 67, 73, 75,
-];
 
 /// Pairs of fields, the first of which reads the second.
 pub const READING_PAIRS: [(usize, usize); 18] = [
@@ -43,7 +34,7 @@ fn text(rng: &mut Rng, values: &[&str]) -> Vec<u8> {
 
 /// Letters of the a-set with one byte put outside it.
 fn letters_with_one_outside(rng: &mut Rng, length: usize) -> Vec<u8> {
-    let mut bytes: Vec<u8> = (0..length).map(|_| rng.a_character()).collect();
+    let mut bytes = rng.a_characters(length);
     bytes[rng.below(length)] = rng.outside_a_set();
     bytes
 }
@@ -54,6 +45,12 @@ fn misspelt(rng: &mut Rng, word: &[u8]) -> Vec<u8> {
     let place = rng.below(word.len());
     bytes[place] = bytes[place].wrapping_add(rng.between(1, 255) as u8);
     bytes
+}
+
+/// A value of a field that no rule judges.
+fn any_bytes(rng: &mut Rng, fields: &[Field], position: usize) -> Vec<u8> {
+    let length = field_at(fields, position).map_or(0, Field::length);
+    rng.telling_bytes(length)
 }
 
 /// A broken value of a VOL1 field, now and then a legal one.
@@ -69,19 +66,26 @@ pub fn vol1_value(rng: &mut Rng, position: usize) -> Vec<u8> {
             rng,
             &["00", "14", " 1", "1 ", "1A", "99", "13", "01", "0\0"],
         ),
-        79 => text(rng, &["1", "2", "4", " ", "\u{3}"]),
+        80 => text(rng, &["1", "2", "4", " ", "\u{3}"]),
         81 => text(rng, &["00", "61", "FF", "0a", "5g", "  ", " 1", "G0", "60"]),
         83 => text(rng, &["07", "00", "1B", "FF", "1a", "  ", "08", "1A"]),
         85 => text(rng, &["00", "1B", "FF", "1a", " 1", "1A", "01"]),
-        _ => text(rng, &["0", "3", "F", "A", "a", " ", "\0"]),
+        89 => text(rng, &["0", "3", "F", "A", "a", " ", "\0"]),
+        _ => any_bytes(rng, &VOL1, position),
     }
 }
 
 /// A value of an ERMAP field, broken or at a bound.
 pub fn ermap_value(rng: &mut Rng, position: usize, geometry: &Geometry) -> Vec<u8> {
-    if position == 1 {
-        return misspelt(rng, b"ERMAP");
+    match position {
+        1 => misspelt(rng, b"ERMAP"),
+        7 | 11 => cylinder_value(rng, geometry),
+        _ => any_bytes(rng, &ERMAP, position),
     }
+}
+
+/// A defective cylinder or what is nearly one.
+fn cylinder_value(rng: &mut Rng, geometry: &Geometry) -> Vec<u8> {
     let near = [
         0,
         1,
@@ -231,6 +235,7 @@ pub fn hdr1_value(rng: &mut Rng, volume: &Volume, slot: usize, position: usize) 
         54 => record_length_value(rng, b),
         58 => unused_value(rng, b, r),
         63 => text(rng, &["B", " ", "X", "b", "\0"]),
-        _ => text(rng, &["S", " ", "X", "\0"]),
+        64 => text(rng, &["S", " ", "X", "\0"]),
+        _ => any_bytes(rng, &HDR1, position),
     }
 }

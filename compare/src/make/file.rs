@@ -2,8 +2,10 @@
 
 use super::build::Volume;
 use super::pack::{body, pack, pack_loosely, Packed, Shape};
+use super::positions::{draw_label, of_another_level, HDR1};
 use super::rng::Rng;
 use crate::layout::Geometry;
+use crate::text::address_digits;
 
 /// Traits asked of a volume's first file.
 #[derive(Clone, Copy, Debug, Default)]
@@ -306,6 +308,29 @@ fn date(rng: &mut Rng) -> String {
     }
 }
 
+fn generation(rng: &mut Rng) -> String {
+    match rng.below(2) {
+        0 => "  ".to_string(),
+        _ => format!("{:02}", rng.between(1, 99)),
+    }
+}
+
+/// 67-72: "the same, or 999999".
+fn expiry(rng: &mut Rng) -> String {
+    match rng.below(3) {
+        0 => "999999".to_string(),
+        _ => date(rng),
+    }
+}
+
+/// 58-62: "spaces meaning 0".
+fn unused(rng: &mut Rng, u: usize) -> String {
+    match (u, rng.chance(50)) {
+        (0, true) => "     ".to_string(),
+        (u, _) => format!("{u:05}"),
+    }
+}
+
 /// 54-57: "spaces mean R = B".
 fn record_length(rng: &mut Rng, shape: &Shape) -> String {
     match shape.r == shape.b && (shape.r > 9_999 || rng.chance(50)) {
@@ -321,50 +346,55 @@ fn label_format(rng: &mut Rng, format: u8) -> u8 {
     }
 }
 
-fn write_label(rng: &mut Rng, volume: &mut Volume, file: &FilePlan) {
-    let slot = file.slot;
-    let rubbish = rng.telling_bytes(128);
-    volume.label(slot).copy_from_slice(&rubbish);
-    volume.image[Geometry::slot_ordinal(slot) * 129] = 0;
-    volume.set(slot, 1, b"HDR1");
-    volume.set(slot, 6, &file.name);
-    volume.set(slot, 23, format!("{:05}", file.shape.b).as_bytes());
-    volume.set(slot, 29, &volume.digits(file.start));
-    volume.set(slot, 35, &volume.digits(file.end));
-    volume.set(slot, 40, &[label_format(rng, file.shape.format)]);
-    volume.set(slot, 41, &[rng.pick(b" B"), b' ', b' ', file.level, b' ']);
-    let generation = match rng.below(2) {
-        0 => "  ".to_string(),
-        _ => format!("{:02}", rng.between(1, 99)),
-    };
-    volume.set(slot, 46, generation.as_bytes());
-    volume.set(slot, 48, date(rng).as_bytes());
-    let record = record_length(rng, &file.shape);
-    volume.set(slot, 54, record.as_bytes());
-    let unused = match (file.u, rng.chance(50)) {
-        (0, true) => "     ".to_string(),
-        (u, _) => format!("{u:05}"),
-    };
-    volume.set(slot, 58, unused.as_bytes());
-    volume.set(slot, 63, &[if file.shape.blocked { b'B' } else { b' ' }]);
-    volume.set(slot, 64, &[rng.pick(b" S")]);
-    let expiry = match rng.below(3) {
-        0 => "999999".to_string(),
-        _ => date(rng),
-    };
-    volume.set(slot, 67, expiry.as_bytes());
-    volume.set(slot, 73, &[rng.a_character()]);
-    volume.set(slot, 75, &volume.digits(file.data_end));
+/// Puts a label into a slot.
+fn put_label(volume: &mut Volume, slot: usize, label: &[u8]) {
+    Geometry::set_index_kind(&mut volume.image, Geometry::slot_ordinal(slot), 0);
+    volume.label(slot).copy_from_slice(label);
 }
 
-/// A label of another level: rubbish but for what is judged.
+fn write_label(rng: &mut Rng, volume: &mut Volume, file: &FilePlan) {
+    let geometry = volume.geometry;
+    let label = draw_label(rng, &HDR1, |rng, field| {
+        value(rng, &geometry, file, field.first)
+    });
+    put_label(volume, file.slot, &label);
+}
+
+/// A legal value of a judged field of a file's label.
+fn value(rng: &mut Rng, geometry: &Geometry, file: &FilePlan, position: usize) -> Vec<u8> {
+    let digits = |record: usize| address_digits(record, geometry).to_vec();
+    match position {
+        1 => b"HDR1".to_vec(),
+        6 => file.name.to_vec(),
+        23 => format!("{:05}", file.shape.b).into_bytes(),
+        29 => digits(file.start),
+        35 => digits(file.end),
+        40 => vec![label_format(rng, file.shape.format)],
+        41 => vec![rng.pick(b" B")],
+        44 => vec![file.level],
+        46 => generation(rng).into_bytes(),
+        48 => date(rng).into_bytes(),
+        54 => record_length(rng, &file.shape).into_bytes(),
+        58 => unused(rng, file.u).into_bytes(),
+        63 => vec![if file.shape.blocked { b'B' } else { b' ' }],
+        64 => vec![rng.pick(b" S")],
+        67 => expiry(rng).into_bytes(),
+        73 => vec![rng.a_character()],
+        75 => digits(file.data_end),
+        // 42, 43 and 45: what refuses a reading or a write is put in later.
+        _ => b" ".to_vec(),
+    }
+}
+
+/// A label of another level: any bytes but for what is judged.
 pub fn other_label(rng: &mut Rng, volume: &mut Volume, slot: usize, extent: (usize, usize)) {
-    let rubbish = rng.telling_bytes(128);
-    volume.label(slot).copy_from_slice(&rubbish);
-    volume.image[Geometry::slot_ordinal(slot) * 129] = 0;
-    volume.set(slot, 1, b"HDR1");
-    volume.set(slot, 29, &volume.digits(extent.0));
-    volume.set(slot, 35, &volume.digits(extent.1));
-    volume.set(slot, 44, &[rng.pick(b"034589AFVZ!_\"%>")]);
+    let (start, end) = (volume.digits(extent.0), volume.digits(extent.1));
+    let label = draw_label(rng, &of_another_level(), |rng, field| match field.first {
+        1 => b"HDR1".to_vec(),
+        29 => start.to_vec(),
+        35 => end.to_vec(),
+        _ => vec![rng.pick(b"034589AFVZ!_\"%>")],
+    });
+    put_label(volume, slot, &label);
     volume.others.push(slot);
 }

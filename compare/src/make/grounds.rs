@@ -3,7 +3,7 @@
 //! defective and check-failed records where they matter.
 
 use super::rng::Rng;
-use super::sample::{hdr1, Plain};
+use super::sample::{ermap, hdr1, Plain};
 use crate::text::address_digits;
 
 /// Level, position 40, position 63, B, and 54-57.
@@ -152,12 +152,8 @@ fn geometry(number: usize, k: u8, s: usize) -> Plain {
         3 => (Some(2), Some(3)),
         _ => (Some(2), Some(4)),
     };
-    let field = |cylinder: Option<usize>| {
-        cylinder.map_or("   ".to_string(), |cylinder| format!("{cylinder:02}0"))
-    };
-    plain.set_sector(5, 7, field(d1).as_bytes());
-    plain.set_sector(5, 11, field(d2).as_bytes());
     (plain.geometry.d1, plain.geometry.d2) = (d1, d2);
+    plain.set_sector(5, 1, &ermap(&plain.geometry));
     plain
 }
 

@@ -14,12 +14,14 @@ pub mod grounds;
 pub mod lists;
 pub mod pack;
 pub mod places;
+pub mod positions;
 pub mod read_cases;
 pub mod rng;
 pub mod sample;
 pub mod segments;
 pub mod sizes;
 pub mod tables;
+pub mod version;
 pub mod volume_cases;
 pub mod write_cases;
 

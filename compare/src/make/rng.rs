@@ -71,6 +71,10 @@ impl Rng {
         self.pick(A_SET)
     }
 
+    pub fn a_characters(&mut self, length: usize) -> Vec<u8> {
+        (0..length).map(|_| self.a_character()).collect()
+    }
+
     /// A byte outside the a-set, often one next to it.
     pub fn outside_a_set(&mut self) -> u8 {
         self.pick(b"\x00\x1F\x23\x24\x40\x5B\x5E\x60\x61\x7A\x7F\x80\xA0\xDF\xFF")

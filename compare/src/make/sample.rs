@@ -1,6 +1,7 @@
 //! Volumes made by hand: the sample of document 01's listing and a few more.
 
-use super::build::plain_geometry;
+use super::build::{ermap_of, plain_geometry, vol1_of};
+use super::positions::{free_in, plain_label, ERMAP, HDR1, VOL1};
 use super::sizes::{largest, read_sample, smallest, to_place, to_write, typical};
 use crate::layout::{Geometry, INDEX_SECTOR};
 use crate::text::address;
@@ -16,14 +17,31 @@ pub struct Plain {
 
 /// A label's 128 bytes: a fixed unblocked file of level space.
 pub fn hdr1(name: &str, b: usize, start: &str, end: &str) -> Vec<u8> {
-    let mut label = vec![b' '; 128];
-    label[0..4].copy_from_slice(b"HDR1");
-    label[5..5 + name.len()].copy_from_slice(name.as_bytes());
-    label[22..27].copy_from_slice(format!("{b:05}").as_bytes());
-    label[28..33].copy_from_slice(start.as_bytes());
-    label[34..39].copy_from_slice(end.as_bytes());
-    label[74..79].copy_from_slice(start.as_bytes());
-    label
+    let length = format!("{b:05}");
+    plain_label(&HDR1, |position| {
+        let text = match position {
+            1 => "HDR1",
+            6 => name,
+            23 => length.as_str(),
+            29 | 75 => start,
+            35 => end,
+            _ => return None,
+        };
+        Some(text.as_bytes().to_vec())
+    })
+}
+
+/// VOL1 of a geometry: what has no choice, and a name.
+fn vol1(geometry: &Geometry) -> Vec<u8> {
+    plain_label(&VOL1, |position| match position {
+        5 => Some(b"DEMO01".to_vec()),
+        _ => vol1_of(geometry, position),
+    })
+}
+
+/// ERMAP of a geometry.
+pub fn ermap(geometry: &Geometry) -> Vec<u8> {
+    plain_label(&ERMAP, |position| ermap_of(geometry, position))
 }
 
 impl Plain {
@@ -42,13 +60,8 @@ impl Plain {
         for slot in 1..=geometry.slots() {
             plain.delete(slot);
         }
-        plain.set_sector(5, 1, b"ERMAP");
-        plain.set_sector(7, 1, b"VOL1DEMO01");
-        plain.set_sector(7, 72, b"A");
-        plain.set_sector(7, 76, &[b" 123"[k as usize]]);
-        plain.set_sector(7, 79, b"3");
-        plain.set_sector(7, 81, format!("{l:02X}{i:02X}{d:02X}").as_bytes());
-        plain.set_sector(7, 89, format!("{s}").as_bytes());
+        plain.set_sector(5, 1, &ermap(&geometry));
+        plain.set_sector(7, 1, &vol1(&geometry));
         plain
     }
 
@@ -79,7 +92,7 @@ impl Plain {
     /// Bytes that are no space wherever a label is not judged, so that each
     /// one that stays is seen to.
     pub fn soil_label(&mut self, slot: usize) {
-        for position in [5, 28, 34, 65, 66, 74].into_iter().chain(80..=128) {
+        for position in free_in(&HDR1) {
             self.set(slot, position, &[0x80 | position as u8]);
         }
     }

@@ -2,8 +2,9 @@
 
 use super::build::{blank, geometry, plain_geometry, volume, volume_of, Volume, LEAST};
 use super::calls::{any_call, label_call};
-use super::fields::{ermap_value, hdr1_value, vol1_value, ERMAP, HDR1, READING_PAIRS, VOL1};
+use super::fields::{ermap_value, hdr1_value, vol1_value, READING_PAIRS};
 use super::file::Want;
+use super::positions::{judged_in, named_by_10, ERMAP, HDR1, VOL1};
 use super::rng::Rng;
 use crate::layout::{Geometry, INDEX_SECTOR};
 use crate::model::Call;
@@ -121,18 +122,19 @@ pub fn label_sectors(rng: &mut Rng, largest: usize) -> Made {
     (made.image, Call::Judge)
 }
 
+/// One field of VOL1, those that are not judged among them.
 pub fn vol1_one(rng: &mut Rng, largest: usize) -> Made {
     let mut made = volume(rng, largest, Want::default());
-    let position = rng.pick(&VOL1);
+    let position = rng.pick(&VOL1).first;
     made.set_vol1(position, &vol1_value(rng, position));
     (made.image, Call::Judge)
 }
 
-/// Two fields of VOL1, and now and then a length that is wrong too.
+/// Two judged fields of VOL1, and now and then a length that is wrong too.
 pub fn vol1_two(rng: &mut Rng, largest: usize) -> Made {
     let mut made = volume(rng, largest, Want::default());
     for _ in 0..2 {
-        let position = rng.pick(&VOL1);
+        let position = rng.pick(&judged_in(&VOL1));
         made.set_vol1(position, &vol1_value(rng, position));
     }
     if rng.chance(20) {
@@ -146,7 +148,7 @@ pub fn vol1_access(rng: &mut Rng, largest: usize) -> Made {
     let mut made = volume(rng, largest, Want::default());
     made.set_vol1(11, &[rng.a_character()]);
     match rng.below(4) {
-        0 => made.set_vol1(79, b"2"),
+        0 => made.set_vol1(80, b"2"),
         1 => made.image.truncate(903),
         2 => made.image[0] = 99,
         _ => {}
@@ -181,9 +183,10 @@ pub fn kinds(rng: &mut Rng, largest: usize) -> Made {
     (made.image, call)
 }
 
+/// One field of ERMAP, those that are not judged among them.
 pub fn ermap_one(rng: &mut Rng, largest: usize) -> Made {
     let mut made = volume(rng, largest, Want::default());
-    let position = rng.pick(&ERMAP);
+    let position = rng.pick(&ERMAP).first;
     made.set_ermap(position, &ermap_value(rng, position, &made.geometry));
     (made.image, Call::Judge)
 }
@@ -231,10 +234,11 @@ fn change_fields(rng: &mut Rng, made: &mut Volume, slot: usize, positions: &[usi
     }
 }
 
+/// One field of a label but 1-4, those that are not judged among them.
 pub fn hdr1_one(rng: &mut Rng, largest: usize) -> Made {
     let mut made = volume(rng, largest, Want::default());
     let slot = some_slot(rng, &made);
-    let position = rng.pick(&HDR1);
+    let position = rng.pick(&HDR1[1..]).first;
     // A legal value is drawn again a few times, so that most are broken.
     for _ in 0..rng.between(1, 5) {
         change_fields(rng, &mut made, slot, &[position]);
@@ -249,7 +253,8 @@ pub fn hdr1_one(rng: &mut Rng, largest: usize) -> Made {
 pub fn hdr1_two(rng: &mut Rng, largest: usize) -> Made {
     let mut made = volume(rng, largest, Want::default());
     let slot = some_slot(rng, &made);
-    let positions = [rng.pick(&HDR1), rng.pick(&HDR1)];
+    let judged = named_by_10();
+    let positions = [rng.pick(&judged), rng.pick(&judged)];
     change_fields(rng, &mut made, slot, &positions);
     let call = label_call(rng, &made);
     (made.image, call)
@@ -262,7 +267,7 @@ pub fn hdr1_reading_pairs(rng: &mut Rng, largest: usize) -> Made {
     let (reader, read) = rng.pick(&READING_PAIRS);
     change_fields(rng, &mut made, slot, &[reader, read]);
     if rng.chance(20) {
-        let third = rng.pick(&HDR1);
+        let third = rng.pick(&named_by_10());
         change_fields(rng, &mut made, slot, &[third]);
     }
     (made.image, Call::Judge)
@@ -319,7 +324,7 @@ pub fn hdr1_suspended(rng: &mut Rng, largest: usize) -> Made {
 pub fn two_slots(rng: &mut Rng, largest: usize) -> Made {
     let mut made = volume(rng, largest, Want::default());
     let (first, second) = (some_slot(rng, &made), some_slot(rng, &made));
-    let position = rng.pick(&HDR1);
+    let position = rng.pick(&named_by_10());
     change_fields(rng, &mut made, first, &[position]);
     match rng.below(3) {
         0 => made.set(second, 1, b"HDR2"),

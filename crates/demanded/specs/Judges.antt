@@ -5,15 +5,16 @@
 use Prim.Native.Nat.{ℕ, _+_, _*_, _≤_}
 use mathlib.Core.Path.{_≡_, refl, sym, ap, _∙_}
 use mathlib.Core.Bool.{true}
-use mathlib.Core.List.{List, List·Memᴰ}
+use mathlib.Core.List.{List, [], _∷_, List·Memᴰ}
 use lib.ListN.{length, take, drop}
 use native.Mathlib.Omega.{arith}
-use Rattle.standard.specs.Characters.{bytes, oneOf, same}
-use Rattle.standard.specs.Layout.{imageLength, indexSectors, labelAt, slotCount, kAt, bodySize, kindOffset, bodyOffset, slotOrdinal, labelOffset, kindAt, bodyAt, validMark}
+use Rattle.standard.specs.Characters.{bytes, byte, oneOf, same, at}
+use Rattle.standard.specs.Refusals.{refuse}
+use Rattle.standard.specs.Layout.{imageLength, vol1Of, indexSectors, labelAt, slotCount, kAt, bodySize, kindOffset, bodyOffset, slotOrdinal, labelOffset, kindAt, bodyAt, validMark}
 use Rattle.standard.specs.Addresses.{ordinal, addressCount, legal, rank}
 use Rattle.standard.specs.Labels.{knownLevel, nameOf}
 use Rattle.standard.specs.Slots.{hasLabel, isLabel}
-use Rattle.standard.specs.Judgement.{judged, volumeOf}
+use Rattle.standard.specs.Judgement.{judged, volumeOf, refusal1, refusal2}
 use Rattle.standard.specs.Free.{freeRecords, inExtent}
 use Rattle.standard.specs.Files.{extent, blockCount, countOr, countRefusal, counted}
 use Rattle.standard.specs.Writing.{imageAfter}
@@ -30,6 +31,7 @@ use Rattle.standard.specs.declared.Counted.{Counted}
 use Rattle.standard.specs.declared.Counted.the-variants.{Uncounted, Count}
 use Rattle.promises.specs.Ground.Basics.{never}
 use Rattle.promises.specs.Refusals.Refusing.{Exactly}
+use Rattle.promises.specs.Refusals.VersionNamed.{HoldBelow80}
 use Rattle.promises.specs.Volumes.VolumeNumbers.{Numbers, numbers-of, image-range}
 use Rattle.promises.specs.Volumes.Judging.{accepted as stages-of}
 use Rattle.promises.specs.Volumes.AcceptedLaws.{image-length}
@@ -38,7 +40,8 @@ use Rattle.promises.specs.Volumes.FindingLaws.{find-slot as found-in-slot, slot
 use Rattle.promises.specs.Volumes.FreeLaws.{extentsBelow}
 use Rattle.promises.specs.Images.Sectors.{AgreeOn, sectorOf}
 use Rattle.promises.specs.Demands.{extents-in-range, sharing-no-record, extent-is, finding-gives, label-given, free-gives, locality, write-counts}
-use Rattle.promises.specs.Instances.{demo, demoVolume, demoBodies, demoLengths, demo-accepted}
+use Rattle.promises.specs.Requested.{version-digit, version-refused, named-by-3}
+use Rattle.promises.specs.Instances.{demo, demoVolume, demoBodies, demoLengths, demoOld, demo-accepted, demo-version}
 use Rattle.demanded.specs.Calls.{Response, Meets, ByName, InSlot, named, inSlot, judge, find, find-slot, label-named, label-in-slot, free, count, contract}
 
 -- ======== JUDGING
@@ -74,6 +77,27 @@ module _ (judger : List ℕ → Response Judged) (judges : Meets (contract judge
     pub shares-no-record : (slot other : ℕ) (a b : Address) → hasLabel g image slot ≡ true → hasLabel g image other ≡ true
         → List·Memᴰ a (extent g (labelAt g image slot)) → List·Memᴰ b (extent g (labelAt g image other)) → ordinal g a ≡ ordinal g b → slot ≡ other
     shares-no-record slot other a b = sharing-no-record image g slot other a b accepted
+
+    -- request 2026-02, "Position 80 must be `3`"
+    pub has-version : at (vol1Of image) 80 ≡ byte "3"
+    has-version = version-digit image g accepted
+
+  -- "Refusals: 3 now names 80 and no longer 79": exactly if neither 1 nor 2 is given, the rules of VOL1's positions below 80 hold, and 80 is not `3`; and these are all
+  -- the positions that a 3 names. (79 is not judged: Unseen, `reserve-at-79`.)
+  pub refuses-version-exactly : (image : List ℕ) → Exactly (judger image .answer ≡ Refused (refuse 3 80))
+      ((refusal1 image ≡ Passed) × (refusal2 image ≡ Passed) × HoldBelow80 (vol1Of image) × (at (vol1Of image) 80 ≡ byte "3" → ⊥))
+  refuses-version-exactly image =
+      let e = version-refused image in
+      let is = judges image .0 in
+      ((λ h. e .0 (sym is ∙ h)), (λ f. is ∙ e .1 f))
+
+  pub three-names-these : (image : List ℕ) (r : Refusal) → judger image .answer ≡ Refused r → r .number ≡ 3
+      → oneOf (1 ∷ 5 ∷ 11 ∷ 38 ∷ 72 ∷ 76 ∷ 77 ∷ 80 ∷ 81 ∷ 83 ∷ 85 ∷ 89 ∷ []) (r .first) ≡ true
+  three-names-these image r h three = named-by-3 image r three (sym (judges image .0) ∙ h)
+
+  -- one that takes the digit at either place: `demo` with `3` at 79 and a space at 80 is refused, and 80 is named
+  pub no-either-place : judger demoOld .answer ≡ Refused (refuse 3 80)
+  no-either-place = judges demoOld .0 ∙ demo-version .0
 
   -- "These programs have to be rejected: one refusing everything": a small volume with an empty file (`demo`, in Instances) is accepted
   pub no-refusing-judge : (x : Refusal) → judger demo .answer ≡ Refused x → ⊥

@@ -36,7 +36,7 @@ pub record Small (v : List ℕ) : Type 0 where
 pub vol1-small : (v : List ℕ) → lowestFault (vol1Rules v) ≡ 0 → Small v
 unfolding vol1Rules
 vol1-small v z =
-    let (r1, (r5, (r11, (r38, (r72, (r76, (r77, (r79, (r81, (r83, (r85, (r89, _)))))))))))) = rows-each _ z refl in
+    let (r1, (r5, (r11, (r38, (r72, (r76, (r77, (r80, (r81, (r83, (r85, (r89, _)))))))))))) = rows-each _ z refl in
     record {
       l = omega (arith, hex-bounds 1 96 (field v 81 82) r81);
       i = omega (arith, hex-bounds 8 26 (field v 83 84) r83);

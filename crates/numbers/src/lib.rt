@@ -89,7 +89,7 @@ fn char_is(v: &[u8], i: usize, x: u64) -> bool
     one_of_1(wide(v[i]), x)
 }
 
-// "72 `A`; 76 space, 1, 2, 3 for P = 128, 256, 512, 1024; 77-78 spaces or 01-13; 79 `3`"
+// "72 `A`; 76 space, 1, 2, 3 for P = 128, 256, 512, 1024; 77-78 spaces or 01-13"; 2026-02: "Position 80 must be `3`; 79 becomes reserved and is not judged."
 fn vol1_fault_from_72(v: &[u8]) -> u64
     requires { ⌜ length (now v) ≡ 128 ⌝ }
     ensures { λ r. ⌜ r ≡ lowestFault (drop 4 (vol1Rules (now (v .entry)))) ⌝ }
@@ -103,8 +103,8 @@ fn vol1_fault_from_72(v: &[u8]) -> u64
     if !spaces_or_number(1, 13, &v[76..78]) {
         return 77;
     }
-    if !char_is(v, 78, 51) {
-        return 79;
+    if !char_is(v, 79, 51) {
+        return 80;
     }
     vol1_fault_from_81(v)
 }

@@ -3,7 +3,7 @@
 -- cite; the few that are not are said where they first stand. `A → B`: if A then B; `A × B`: both; `A ⊎ B`: one of them; `A → ⊥`: not A; `Passed`: no refusal of
 -- the list is given; `getD x i 0`: the byte at i.
 -- Assumes nothing.
-use Prim.Native.Nat.{ℕ, _+_, _*_, _≤_, suc, _<_}
+use Prim.Native.Nat.{ℕ, _+_, _-_, _*_, _≤_, suc, _<_}
 use mathlib.Core.Path.{_≡_, sym, ap, _∙_}
 use mathlib.Core.Bool.{Bool, true}
 use mathlib.Core.Logic.{_⊎_}
@@ -62,11 +62,11 @@ use Rattle.promises.specs.Writing.WrittenLabel.{records-some}
 use Rattle.promises.specs.Salvage.SalvagedHeard.{SalvageHeardPromise, salvage-heard-promise, NeverJoinedAnyPromise, never-joined-any-promise}
 use Rattle.promises.specs.Salvage.SalvageImage.{only-blocks}
 use Rattle.promises.specs.Reading.Runs.{Stands, record-stands}
-use Rattle.promises.specs.Images.Untrusted.{SectorsKnown, EqualButFailed}
-use Rattle.promises.specs.Trust.JudgedAlike.{judged-alike, equal-swap}
-use Rattle.promises.specs.Trust.AnswersAlike.{found-alike, found-at-alike, label-named-alike, label-in-alike, free-alike, counted-alike, reply-alike, listing-alike}
-use Rattle.promises.specs.Trust.LeftAlike.{failed-body-any}
-use Rattle.promises.specs.Trust.ChangesAlike.{written-alike, write-leaves-alike, created-alike, create-leaves-alike, deleted-alike, delete-leaves-alike}
+use Rattle.promises.specs.Images.Alike.{Loose, NoneJudged, Only, SectorsKnown, EqualBut}
+use Rattle.promises.specs.Unseen.JudgedAlike.{judged-alike, equal-swap}
+use Rattle.promises.specs.Unseen.AnswersAlike.{found-alike, found-at-alike, label-named-alike, label-in-alike, free-alike, counted-alike, reply-alike, listing-alike}
+use Rattle.promises.specs.Unseen.LeftAlike.{failed-body-any, unjudged-any}
+use Rattle.promises.specs.Unseen.ChangesAlike.{written-alike, write-leaves-alike, created-alike, create-leaves-alike, deleted-alike, delete-leaves-alike}
 
 -- ======== DEMAND 1
 -- "Every image, name, place and length is taken, untested by the caller." Each definition below is a function of any lists of bytes and any numbers, so
@@ -336,50 +336,58 @@ locality image image′ g g′ slot j j′ index extents =
     let l = locality-promise image image′ g g′ slot j j′ index extents in
     (l .1, l .2, l .3)
 
--- ======== CHECK FAILED, BODY NOT TRUSTED
--- "Kind 32+k: check failed, body not trusted." `EqualButFailed image image′`: the images have one length, and every sector has the same bytes in both or is
--- check-failed in both, whatever stands behind its kind. (In Untrusted. Sectors 01 to 07 are compared on any image; the others where none of the refusals 1 to 5
--- is given, `SectorsKnown`: only then is it known where they lie.) Two such images, accepted or refused, get equal answers to every call, and a call that changes
--- them leaves two such images again. So whatever is asked of them, in whatever order, no answer depends on a body that is not trusted.
-module _ (image image′ : List ℕ) (alike : EqualButFailed image image′) where
-  pub untrusted-judged : judged image ≡ judged image′
-  untrusted-judged = judged-alike image image′ alike
+-- ======== WHAT NO ANSWER HANGS ON
+-- "Kind 32+k: check failed, body not trusted"; "sectors 01-04 and 06 are not judged beyond kind"; of VOL1 "all other positions are not judged", and 2026-02: "79
+-- becomes reserved and is not judged". `EqualBut loose image image′`: the images have one length and the same bytes, but for what is loose: the bodies of check-failed
+-- sectors, if those are, whose kinds are the same; and positions of sectors 01 to 07, any set of which no rule judges one (`NoneJudged`, `Unjudged`). (In Alike.
+-- Sectors 01 to 07 are compared on any image; the others where none of the refusals 1 to 5 is given, `SectorsKnown`: only then is it known where they lie.) Two such
+-- images, accepted or refused, get equal answers to every call, and a call that changes them leaves two such images again. So whatever is asked of them, in whatever
+-- order, no answer depends on a body that is not trusted or on a position that is not judged.
+module _ (loose : Loose) (none-judged : NoneJudged loose) (image image′ : List ℕ) (alike : EqualBut loose image image′) where
+  pub unseen-judged : judged image ≡ judged image′
+  unseen-judged = judged-alike loose none-judged image image′ alike
 
-  pub untrusted-found : ((name : List ℕ) → found image name ≡ found image′ name) × ((slot : ℕ) → foundAt image slot ≡ foundAt image′ slot)
+  pub unseen-found : ((name : List ℕ) → found image name ≡ found image′ name) × ((slot : ℕ) → foundAt image slot ≡ foundAt image′ slot)
       × ((name : List ℕ) → labelNamed image name ≡ labelNamed image′ name) × ((slot : ℕ) → labelInSlot image slot ≡ labelInSlot image′ slot)
-  untrusted-found =
-      (found-alike image image′ alike, found-at-alike image image′ alike, label-named-alike image image′ alike, label-in-alike image image′ alike)
+  unseen-found =
+      (found-alike loose none-judged image image′ alike, found-at-alike loose none-judged image image′ alike, label-named-alike loose none-judged image image′ alike, label-in-alike loose none-judged image image′ alike)
 
-  pub untrusted-counted : ((slot : ℕ) → counted image slot ≡ counted image′ slot) × (freeCount image ≡ freeCount image′)
-  untrusted-counted = (counted-alike image image′ alike, free-alike image image′ alike)
+  pub unseen-counted : ((slot : ℕ) → counted image slot ≡ counted image′ slot) × (freeCount image ≡ freeCount image′)
+  unseen-counted = (counted-alike loose none-judged image image′ alike, free-alike loose none-judged image image′ alike)
 
-  pub untrusted-listed : listing image ≡ listing image′
-  untrusted-listed = listing-alike image image′ alike
+  pub unseen-listed : listing image ≡ listing image′
+  unseen-listed = listing-alike loose none-judged image image′ alike
 
   -- both modes, every place, every output
-  pub untrusted-read : (m : Mode) (slot : ℕ) (pl : Place) (out : List ℕ)
+  pub unseen-read : (m : Mode) (slot : ℕ) (pl : Place) (out : List ℕ)
       → (readAnswer m image slot pl out ≡ readAnswer m image′ slot pl out) × (outputAfter m image slot pl out ≡ outputAfter m image′ slot pl out)
-  untrusted-read m slot pl out =
-      let same = reply-alike image image′ alike m slot pl (length out) in
+  unseen-read m slot pl out =
+      let same = reply-alike loose none-judged image image′ alike m slot pl (length out) in
       (ap (λ (r : Reply). r .answer) same, ap (λ (r : Reply). laidOver (r .body) out) same)
 
   -- a write fills sectors whole, and gives them the valid mark; a create and a delete store in a slot that is not check-failed
-  pub untrusted-written : (slot : ℕ) (bodies lengths : List ℕ) → (written image slot bodies lengths ≡ written image′ slot bodies lengths)
-      × EqualButFailed (imageAfter image slot bodies lengths) (imageAfter image′ slot bodies lengths)
-  untrusted-written slot bodies lengths = (written-alike image image′ alike slot bodies lengths, write-leaves-alike image image′ alike slot bodies lengths)
+  pub unseen-written : (slot : ℕ) (bodies lengths : List ℕ) → (written image slot bodies lengths ≡ written image′ slot bodies lengths)
+      × EqualBut loose (imageAfter image slot bodies lengths) (imageAfter image′ slot bodies lengths)
+  unseen-written slot bodies lengths = (written-alike loose none-judged image image′ alike slot bodies lengths, write-leaves-alike loose none-judged image image′ alike slot bodies lengths)
 
-  pub untrusted-created : (fields : List ℕ) (n : ℕ) → (created image fields n ≡ created image′ fields n)
-      × EqualButFailed (imageAfterCreate image fields n) (imageAfterCreate image′ fields n)
-  untrusted-created fields n = (created-alike image image′ alike fields n, create-leaves-alike image image′ alike fields n)
+  pub unseen-created : (fields : List ℕ) (n : ℕ) → (created image fields n ≡ created image′ fields n)
+      × EqualBut loose (imageAfterCreate image fields n) (imageAfterCreate image′ fields n)
+  unseen-created fields n = (created-alike loose none-judged image image′ alike fields n, create-leaves-alike loose none-judged image image′ alike fields n)
 
-  pub untrusted-deleted : (slot : ℕ) → (deleted image slot ≡ deleted image′ slot) × EqualButFailed (imageAfterDelete image slot) (imageAfterDelete image′ slot)
-  untrusted-deleted slot = (deleted-alike image image′ alike slot, delete-leaves-alike image image′ alike slot)
+  pub unseen-deleted : (slot : ℕ) → (deleted image slot ≡ deleted image′ slot) × EqualBut loose (imageAfterDelete image slot) (imageAfterDelete image′ slot)
+  unseen-deleted slot = (deleted-alike loose none-judged image image′ alike slot, delete-leaves-alike loose none-judged image image′ alike slot)
 
--- Which images these are: the other way round it is the same; and whatever bytes are laid over the body of a check-failed sector (`splice`: from an offset on), the
--- image before and the image after are two of them; also of a slot's, for which the volume is refused.
-pub untrusted-either-way : (image image′ : List ℕ) → EqualButFailed image image′ → EqualButFailed image′ image
-untrusted-either-way = equal-swap
+-- Which images these are: the other way round it is the same; and, where bodies are loose, whatever bytes are laid over the body of a check-failed sector (`splice`:
+-- from an offset on), the image before and the image after are two of them; also of a slot's, for which the volume is refused.
+pub unseen-either-way : (loose : Loose) → NoneJudged loose → (image image′ : List ℕ) → EqualBut loose image image′ → EqualBut loose image′ image
+unseen-either-way = equal-swap
 
-pub untrusted-body : (image : List ℕ) (n : ℕ) (bytes : List ℕ) → SectorsKnown image → n < sectorCount (volumeOf image) → checkFailed (volumeOf image) image n ≡ true
-    → length bytes ≡ bodySize (volumeOf image) n → EqualButFailed image (splice (bodyOffset (volumeOf image) n) bytes image)
+pub untrusted-body : (loose : Loose) → loose .bodies → (image : List ℕ) (n : ℕ) (bytes : List ℕ) → SectorsKnown image → n < sectorCount (volumeOf image)
+    → checkFailed (volumeOf image) image n ≡ true → length bytes ≡ bodySize (volumeOf image) n
+    → EqualBut loose image (splice (bodyOffset (volumeOf image) n) bytes image)
 untrusted-body = failed-body-any
+
+-- and so are an image and what it becomes if any byte is put at a position of sector 01 to 07, that position alone being loose (`Only`)
+pub unjudged-byte : (image : List ℕ) (sector position x : ℕ) → 1 ≤ sector → sector ≤ 7 → 1 ≤ position → position ≤ 128
+    → (sector - 1) * 129 + position < length image → EqualBut (Only sector position) image (splice ((sector - 1) * 129 + position) (x ∷ []) image)
+unjudged-byte = unjudged-any

@@ -1,7 +1,7 @@
 -- Three small images in which the theorems say something: what is promised of images is promised of these. Examples 9 and 10 of the document in an image; a file
 -- with a defective record, which shows what demand 3 does not promise; and a volume with a write to it that is accepted.
 -- Assumes nothing.
-use Prim.Native.Nat.{ℕ, zero, suc, _-_, _<_}
+use Prim.Native.Nat.{ℕ, zero, suc, _+_, _-_, _*_, _<_}
 use mathlib.Core.Path.{_≡_, refl, subst, ap, _∙_}
 use mathlib.Core.Bool.{true, false}
 use mathlib.Core.List.{List, [], _∷_, _++_, map, flatten}
@@ -30,7 +30,7 @@ use Rattle.standard.specs.Free.{inExtent, taken}
 use Rattle.standard.specs.Creating.{proposed, proposedRules, proposalFault, deletedFrom, lowestDeleted, freeRun, runFrom, lowestRun, createRefusal, storeSlot, imageCreated, creation, created, imageAfterCreate, deleteRefusal, deletion, deleted, imageAfterDelete}
 use Rattle.standard.specs.Rules.{lowestFault}
 use Rattle.standard.specs.declared.Geometry.{Geometry}
-use Rattle.standard.specs.declared.Judged.the-variants.{Volume}
+use Rattle.standard.specs.declared.Judged.the-variants.{Refused, Volume}
 use Rattle.standard.specs.declared.Checked.the-variants.{Passed}
 use Rattle.standard.specs.declared.Written.the-variants.{Blocks}
 use Rattle.standard.specs.declared.Counted.the-variants.{Uncounted, Count}
@@ -64,7 +64,7 @@ image =
     blankSectors 4
     ++ sector (bytes "ERMAP")
     ++ sector []
-    ++ sector (bytes "VOL1DEMO01                                                             A      3 010803  1")
+    ++ sector (bytes "VOL1DEMO01                                                             A       3010803  1")
     ++ sector (bytes "HDR1 LOG              00020 01001 01003S   2         000000012B           02001")
     ++ sector (block (bytes "00013AAAAAAAA10007BB"))
     ++ sector (block (bytes "30015BBBBBBBBBB"))
@@ -87,7 +87,7 @@ withDefect =
     blankSectors 4
     ++ sector (bytes "ERMAP")
     ++ sector []
-    ++ sector (bytes "VOL1DEMO01                                                             A      3 010805  1")
+    ++ sector (bytes "VOL1DEMO01                                                             A       3010805  1")
     ++ sector (bytes "HDR1 LOG              00256 01001 01005F   2         0256                 02001")
     ++ (16 ∷ (bytes "F" ++ replicate 127 32))
     ++ sector (of128 65)
@@ -159,7 +159,7 @@ demo =
     blankSectors 4
     ++ sector (bytes "ERMAP")
     ++ sector []
-    ++ sector (bytes "VOL1DEMO01                                                             A      3 010801  1")
+    ++ sector (bytes "VOL1DEMO01                                                             A       3010801  1")
     ++ sector (bytes "HDR1 LOG              00128 01001 01001V   2         0100     B           01001")
     ++ blankSectors 4
 
@@ -187,6 +187,14 @@ pub demo-heard : following 3 plain (imageAfter demo 1 demoBodies demoLengths) 1 
 unfolding parted
 demo-heard =
     written-heard demo demoVolume 1 demoBodies demoLengths (demo-accepted .1) (demo-accepted .2) plain 3 (replicate 5 255) (omega arith, (omega arith, tt))
+
+-- THE PROMISES OF REQUEST 2026-02 SAY SOMETHING: the third image as the printed table has it, `3` at 79 and a space at 80, is refused; with `3` at both it is accepted
+abbrev pub demoOld : List ℕ
+demoOld = splice (6 * 129 + 79) (bytes "3 ") demo
+
+pub demo-version : (judged demoOld ≡ Refused (refuse 3 80)) × (judged (splice (6 * 129 + 79) (bytes "33") demo) ≡ Volume demoVolume)
+unfolding oneOf same every aSet isDigit digitValue numberFrom spacesOrNumber isHex hexValue hexFrom padded given-when inOrder orElse lowestFault sectorCount kAt bodySize kindOffset bodyOffset imageLength kindAt bodyAt firstByte validMark incorrectMark checkFailed indexKind indexBody slotCount slotOrdinal labelOffset labelAt vol1Rules ermapRules ermapRule7 ermapRule11 rule41 rule42 rule43 rule45 rule64 rule73 fiveDigits addressIn addressOf legal rank before pastLast isAddress isDataEnd knownLevel anotherLevel formatOf recordLength unusedCount rule44 rule6 rule29 rule35 rule40 rule23 rule63 rule46 spacesOrDate rule48 rule67 rule54 rule58 rule75 hdr1Rules labelFault isLabel isDeleted isUnreadable slotRefusal slotsFrom hasLabel numbersIn legalKind kindsFrom clashesBelow clashesFrom overlap shares sameName namesake volumeRefusal judged splice
+demo-version = (refl, refl)
 
 -- THE PROMISES OF REQUEST 2026-01 SAY SOMETHING: on the third image the file is deleted and made again, of one record; of two there is no room, and before the
 -- delete no slot

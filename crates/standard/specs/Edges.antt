@@ -6,7 +6,7 @@ use mathlib.Core.Path.{_≡_, refl}
 use mathlib.Core.Bool.{Bool, true, false}
 use mathlib.Core.List.{List, [], _∷_, _++_, map, flatten}
 use lib.ListN.{length, take, replicate}
-use Rattle.standard.specs.Characters.{bytes, byte, oneOf, same, every, aSet, isDigit, digitValue, numberFrom, spacesOrNumber, padded, shownBy, shown}
+use Rattle.standard.specs.Characters.{bytes, byte, oneOf, same, every, aSet, isDigit, digitValue, numberFrom, spacesOrNumber, isHex, hexValue, hexFrom, padded, shownBy, shown}
 use Rattle.standard.specs.Addresses.{addressOf, firstAddress, fiveDigits, addressIn, legal, rank, before, pastLast, isAddress, isDataEnd, fiveBytes}
 use Rattle.standard.specs.Labels.{knownLevel, anotherLevel, recordLength, unusedCount, rule44, rule6, rule29, rule35, rule40, rule23, rule63, rule41, rule42, rule43, rule45, rule46, spacesOrDate, rule48, rule67, rule54, rule58, rule64, rule73, rule75, hdr1Rules, labelFault, fixed, variable, spanned}
 use Rattle.standard.specs.Layout.{kAt, kindOffset, bodyOffset, kindAt, firstByte, validMark, incorrectMark, slotCount, slotOrdinal, labelOffset, labelAt}
@@ -22,6 +22,7 @@ use Rattle.standard.specs.Listed.{rec, gap, end, no, enough, readOn, rea
 use Rattle.standard.specs.Packing.{Packing, unusedIn, layF, recordV, layOne, layV, segment, spread, layS, pack}
 use Rattle.standard.specs.Writing.{splice, unusedField}
 use Rattle.standard.specs.Rules.{lowestFault}
+use Rattle.standard.specs.Volume.{vol1Rules}
 use Rattle.standard.specs.declared.Geometry.{Geometry}
 use Rattle.standard.specs.declared.Place.{Place}
 use Rattle.standard.specs.declared.Refusal.{Refusal}
@@ -200,6 +201,72 @@ pub edges-overlap :
     × (shared "02002" "02003" ≡ true)
 unfolding digitValue addressIn rank overlap
 edges-overlap = (refl, refl, refl, refl, refl, refl)
+
+-- VOL1 of its fields: 5-10 and 11, 38-51, 72, 76, 77-78, then 79-80 as bytes, then 81-89; what is reserved has spaces. And the position at fault, 0 for none
+abbrev vol1 : String → String → String → String → String → List ℕ → String → List ℕ
+vol1 name owner type size order version numbers =
+    bytes "VOL1" ++ (bytes name ++ (replicate 26 (byte " ") ++ (bytes owner ++ (replicate 20 (byte " ") ++ (bytes type ++ (replicate 3 (byte " ")
+    ++ (bytes size ++ (bytes order ++ (version ++ (bytes numbers ++ replicate 39 (byte " ")))))))))))
+
+-- of 77 to 89; of 79-80 alone; of 76 to 89
+abbrev besides : String → List ℕ → String → ℕ
+besides order f numbers = lowestFault (vol1Rules (vol1 "DEMO01 " "              " "A" " " order f numbers))
+
+abbrev version : List ℕ → ℕ
+version f = besides "  " f "050A08  1"
+
+abbrev numbers : String → String → String → ℕ
+numbers size order f = lowestFault (vol1Rules (vol1 "DEMO01 " "              " "A" size order (bytes " 3") f))
+
+-- of 5-11, 38-51 and 72
+abbrev names : String → String → String → ℕ
+names name owner type = lowestFault (vol1Rules (vol1 name owner type " " "  " (bytes " 3") "050A08  1"))
+
+pub edges-vol1 :
+    -- 2026-02: "Position 80 must be `3`": it alone, a space is none, and there is no "either place"
+    (version (bytes " 3") ≡ 0)
+    × (version (bytes "3 ") ≡ 80)
+    × (version (bytes "  ") ≡ 80)
+    × (version (bytes " 2") ≡ 80)
+    × (version (32 ∷ 3 ∷ []) ≡ 80)
+    -- "79 becomes reserved and is not judged"
+    × (version (bytes "33") ≡ 0)
+    × (version (bytes "X3") ≡ 0)
+    × (version (0 ∷ bytes "3") ≡ 0)
+    × (version (255 ∷ bytes "3") ≡ 0)
+    -- "the lowest first"
+    × (besides "14" (bytes "3 ") "050A08  1" ≡ 77)
+    × (besides "13" (bytes "3 ") "000A08  1" ≡ 80)
+    × (besides "13" (bytes " 3") "000008  0" ≡ 81)
+    -- "5-10, 11, 38-51 in the a-set; 72 `A`": 11 may be any such character here, and 4 asks for a space
+    × (names "DEMO01X" "OWNER         " "A" ≡ 0)
+    × (names "demo01 " "              " "A" ≡ 5)
+    × (names "DEMO01a" "              " "B" ≡ 11)
+    × (names "DEMO01 " "             #" " " ≡ 38)
+    × (names "DEMO01 " "              " "1" ≡ 72)
+    -- "76 space, 1, 2, 3"; "77-78 spaces or 01-13"
+    × (numbers "3" "13" "050A08  1" ≡ 0)
+    × (numbers "0" "00" "050A08  1" ≡ 76)
+    × (numbers "4" "13" "050A08  1" ≡ 76)
+    × (numbers " " "00" "050A08  1" ≡ 77)
+    × (numbers " " " 1" "050A08  1" ≡ 77)
+    -- "81-82 hex L, 1-96; 83-84 hex I, 8-26; 85-86 hex D, 1-26; 89 hex S, 1-2", at their bounds and one beyond; "Hex digits are 0-9, A-F"
+    × (numbers " " "  " "010801  1" ≡ 0)
+    × (numbers " " "  " "601A1A  2" ≡ 0)
+    × (numbers " " "  " "000801  1" ≡ 81)
+    × (numbers " " "  " "611A1A  2" ≡ 81)
+    × (numbers " " "  " "0a1A1A  2" ≡ 81)
+    × (numbers " " "  " "600700  0" ≡ 83)
+    × (numbers " " "  " "601B1B  3" ≡ 83)
+    × (numbers " " "  " "600800  0" ≡ 85)
+    × (numbers " " "  " "601A1B  3" ≡ 85)
+    × (numbers " " "  " "601A1A  0" ≡ 89)
+    × (numbers " " "  " "601A1A  3" ≡ 89)
+    -- "87-88 cannot hold 256, so 76 decides; they [..] are not judged"
+    × (numbers "1" "  " "601A1A##2" ≡ 0)
+unfolding oneOf same every aSet isDigit digitValue numberFrom spacesOrNumber isHex hexValue hexFrom lowestFault vol1Rules
+edges-vol1 =
+    (refl, refl, refl, refl, refl, refl, refl, refl, refl, refl, refl, refl, refl, refl, refl, refl, refl, refl, refl, refl, refl, refl, refl, refl, refl, refl, refl, refl, refl, refl, refl, refl, refl, refl)
 
 -- HDR1 of a file from 02001 to 03008 with the data end at its start: format, level, B, R, U and position 63 as given
 abbrev label : String → String → String → String → String → String → List ℕ

@@ -11,7 +11,9 @@ abbrev pub hexBetween : ℕ → ℕ → List ℕ → Bool
 hexBetween low high f = hexDigits f && between low high (hex f)
 
 -- "1-4 `VOL1`; 5-10, 11, 38-51 in the a-set; 72 `A`; 76 space, 1, 2, 3 for P = 128, 256, 512, 1024; 77-78 spaces or 01-13; 79 `3`; 81-82 hex L, 1-96;
--- 83-84 hex I, 8-26; 85-86 hex D, 1-26; 89 hex S, 1-2. 87-88 cannot hold 256, so 76 decides; they and all other positions are not judged."
+-- 83-84 hex I, 8-26; 85-86 hex D, 1-26; 89 hex S, 1-2. 87-88 cannot hold 256, so 76 decides; they and all other positions are not judged." But of 79, request
+-- 2026-02: "The rows of table 2 stand in that order too, reserve first, so the printed numbers are exchanged. Position 80 must be `3`; 79 becomes reserved and is
+-- not judged."
 unfoldable pub vol1Rules : List ℕ → List Row
 vol1Rules v =
     row 1 (same (field v 1 4) (bytes "VOL1"))
@@ -21,7 +23,7 @@ vol1Rules v =
     ∷ row 72 (oneOf (bytes "A") (at v 72))
     ∷ row 76 (oneOf (bytes " 123") (at v 76))
     ∷ row 77 (spacesOrNumber 1 13 (field v 77 78))
-    ∷ row 79 (oneOf (bytes "3") (at v 79))
+    ∷ row 80 (oneOf (bytes "3") (at v 80))
     ∷ row 81 (hexBetween 1 96 (field v 81 82))
     ∷ row 83 (hexBetween 8 26 (field v 83 84))
     ∷ row 85 (hexBetween 1 26 (field v 85 86))

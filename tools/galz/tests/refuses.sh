@@ -23,7 +23,7 @@ VOL1 38 the owner's name
 VOL1 72 the type of recording, A
 VOL1 76 the code of the physical record's length P
 VOL1 77 the sequence of sectors
-VOL1 79 the version of the standard, 3
+VOL1 80 the version of the standard, 3
 VOL1 81 the last data cylinder L
 VOL1 83 the last sector of an index side I
 VOL1 85 the last sector of a data side D
@@ -99,6 +99,37 @@ test_volumes() {
   done
   ends 1 list broken.img
   prints 'REFUSED 12 3'
+}
+
+# The version digit at 79, where table 2 as printed has it: refused at 80 by every command, with a hint; only there, and only where 80 is wrong.
+test_version() {
+  fresh
+  sample demo
+  local version='3 (position 80): a rule of the label VOL1 is broken: the version of the standard, 3'
+  local hint="$version (3 stands at 79, where table 2 as printed has it)"
+  broken "$(vol1 79)" '3 '
+  volume_says "$hint"
+  ends 1 list broken.img
+  prints 'REFUSED 3 80'
+  says "galz: refused $hint"
+  for words in 'read broken.img LOG' 'salvage broken.img LOG' 'write broken.img LOG /dev/null' 'extract-all broken.img dir' 'delete broken.img LOG' \
+    'create --block-length 128 broken.img NEW 1'; do
+    # shellcheck disable=SC2086
+    ends 1 $words
+    prints
+    says "galz: refused $hint"
+  done
+  broken "$(vol1 79)" '32'
+  volume_says "$hint"
+  broken "$(vol1 79)" ' 2'
+  volume_says "$version"
+  broken "$(vol1 77)" '143 '
+  volume_says '3 (position 77): a rule of the label VOL1 is broken: the sequence of sectors'
+  for right in ' 3' '33' 'X3' '\x003' '\xff3'; do
+    broken "$(vol1 79)" "$right"
+    ends 0 judge broken.img
+    says
+  done
 }
 
 # SLOT TEXT: reading a file of broken.img says so

@@ -40,7 +40,7 @@ use Rattle.promises.specs.Volumes.AcceptedLaws.{has-slot, label-in-range
 use Rattle.promises.specs.Volumes.VolumeNumbers.{Numbers, of-rules, numbers-of, ermap-right, slot-in-index}
 use Rattle.promises.specs.Extents.ExtentAddresses.{extent-legal}
 use Rattle.promises.specs.Extents.FullBlocks.{count-held, records-one}
-use Rattle.promises.specs.Refusals.Refusing.{first-order, volume-first, volume-stops, count-first}
+use Rattle.promises.specs.Refusals.Refusing.{by-order, by-none, first-order, volume-first, volume-stops, count-first}
 use Rattle.promises.specs.Volumes.FindingLaws.{find-named, find-none}
 use Rattle.promises.specs.Refusals.PlacesNamed.{given-exactly, place-6, place-17, slots-first, clashes-first}
 use Rattle.promises.specs.Extents.ExtentWhole.{extent-length}
@@ -150,17 +150,6 @@ small-one number place l h p = record { number-low = l; number-high = h; first-l
 
 pub small-given : (t : Bool) (q r : Refusal) → Small q → given-when t q ≡ Stopped r → Small r
 small-given t q r s h = subst Small (sym (given-exactly t q r .0 h .1)) s
-
--- the first of a list is given, or the rest decides
-pub by-order : {A : Type 0} (c : Checked) (rest : List Checked) (r : Refusal) → inOrder (c ∷ rest) ≡ Stopped r
-    → (c ≡ Stopped r → A) → (c ≡ Passed → inOrder rest ≡ Stopped r → A) → A
-unfolding inOrder
-by-order Passed rest r h stop on = on refl h
-by-order (Stopped q) rest r h stop on = stop h
-
-pub by-none : {A : Type 0} (r : Refusal) → inOrder [] ≡ Stopped r → A
-unfolding inOrder
-by-none r h = never (cc)
 
 -- a label's positions are below 129
 abbrev pub below : List Row → Bool

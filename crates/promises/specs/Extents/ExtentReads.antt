@@ -19,7 +19,7 @@ use Rattle.promises.specs.Ground.Basics.{by-test, true-not-false, or-l, 
 use Rattle.promises.specs.Ground.Lists.{Every, every-take, every-drop, every-map}
 use Rattle.promises.specs.Images.Sectors.{sectorAt, sectorOf}
 use Rattle.promises.specs.Images.SectorLaws.{same-body}
-use Rattle.promises.specs.Images.Untrusted.{SameOrFailed, unfailed-same, alike-failed, alike-marked}
+use Rattle.promises.specs.Images.Alike.{SameOrFailed, unfailed-same, alike-failed, alike-marked}
 use Rattle.promises.specs.Volumes.Judging.{stop-first, stop-rest}
 use Rattle.promises.specs.Extents.ExtentAddresses.{every-good}
 

@@ -17,26 +17,11 @@ use Rattle.standard.specs.Labels.{knownLevel, anotherLevel, isFixed, isVariable
 use Rattle.standard.specs.Creating.{proposed, draft, proposalFault}
 use Rattle.standard.specs.declared.Geometry.{Geometry}
 use Rattle.promises.specs.Ground.Basics.{either, by-test, true-not-false, and-l, and-r, or-right, or-rest, applies-both}
-use Rattle.promises.specs.Ground.Lists.{Every}
 use Rattle.promises.specs.Images.AddressLaws.{from-parts}
 use Rattle.promises.specs.Volumes.VolumeNumbers.{Numbers}
+use Rattle.promises.specs.Refusals.PlacesNamed.{held-named}
 use Rattle.promises.specs.Making.Drafts.{spelled, spelled-29}
 use Rattle.promises.specs.Making.AddedRows.{added, proposal-is, wrong-length}
-
--- a table in which every row that does not hold is of one of some positions: so is the lowest fault, or there is none
-abbrev Held : List ℕ → List Row → Type 0
-Held ps rows = Every (λ r. (r .holds ≡ true) ⊎ (oneOf ps (r .position) ≡ true)) rows
-
-held-named : (ps : List ℕ) (rows : List Row) → Held ps rows → oneOf (0 ∷ ps) (lowestFault rows) ≡ true
-unfolding lowestFault oneOf
-held-named ps [] h = refl
-held-named ps (r ∷ rows) h = go (r .holds) (h .0) (held-named ps rows (h .1))
-  where
-    go : (t : Bool) → (t ≡ true) ⊎ (oneOf ps (r .position) ≡ true) → (eqb (lowestFault rows) 0 || oneOf ps (lowestFault rows)) ≡ true
-        → (eqb (cond t (lowestFault rows) (r .position)) 0 || oneOf ps (cond t (lowestFault rows) (r .position))) ≡ true
-    go true a ih = ih
-    go false (inl e) ih = absurd (true-not-false false e refl)
-    go false (inr e) ih = or-right (eqb (r .position) 0) _ e
 
 -- the rules of the fields that are spaces, and of 01001
 pub record Blanks (g : Geometry) (h : List ℕ) : Type 0 where

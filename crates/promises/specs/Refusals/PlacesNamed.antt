@@ -4,12 +4,14 @@
 use Prim.Native.Nat.{ℕ, zero, suc, _+_, _-_, _<_, _≤_}
 use mathlib.Core.Path.{_≡_, refl, sym, ap, subst, _∙_}
 use mathlib.Core.Bool.{Bool, true, false, cond, not, _&&_, _||_}
+use mathlib.Core.Logic.{_⊎_, inl, inr}
 use mathlib.Core.List.{List, [], _∷_, _++_}
 use lib.ListN.{length}
-use lib.Dec.{ltb}
+use lib.Dec.{ltb, eqb}
 use native.Mathlib.Omega.{arith}
 use native.Mathlib.Nat.{eq-or-lt-of-le}
 use borrow.Author.Tests.{ltb-true, lt-ltb, not-true, not-false}
+use Rattle.standard.specs.Characters.{oneOf}
 use Rattle.standard.specs.Refusals.{refuse, refuseAt, given-when, inOrder, orElse}
 use Rattle.standard.specs.Rules.{Row, row, lowestFault}
 use Rattle.standard.specs.Layout.{slotCount, sectorCount, labelAt}
@@ -26,7 +28,7 @@ use Rattle.standard.specs.declared.Address.{Address}
 use Rattle.standard.specs.declared.Refusal.{Refusal}
 use Rattle.standard.specs.declared.Checked.{Checked}
 use Rattle.standard.specs.declared.Checked.the-variants.{Passed, Stopped}
-use Rattle.promises.specs.Ground.Basics.{either, by-test, true-not-false, and-l, and-r, or-rest, never}
+use Rattle.promises.specs.Ground.Basics.{either, by-test, true-not-false, and-l, and-r, or-right, or-rest, never}
 use Rattle.promises.specs.Ground.Lists.{Every}
 use Rattle.promises.specs.Volumes.Judging.{numbered, none-below, readable}
 use Rattle.promises.specs.Refusals.Refusing.{Exactly}
@@ -271,6 +273,21 @@ module _ (p : ℕ) where
     broken-first rows z,
     (λ f. ap lowestFault (f .stands ∙ ap (λ (x : Row). f .earlier ++ (x ∷ f .later)) (f .is-so)) ∙ first-broken (f .earlier) (f .later) (f .none-earlier)),
   )
+
+-- a table in which every row that does not hold is of one of some positions: so is the lowest fault, or there is none
+abbrev pub Held : List ℕ → List Row → Type 0
+Held ps rows = Every (λ r. (r .holds ≡ true) ⊎ (oneOf ps (r .position) ≡ true)) rows
+
+pub held-named : (ps : List ℕ) (rows : List Row) → Held ps rows → oneOf (0 ∷ ps) (lowestFault rows) ≡ true
+unfolding lowestFault oneOf
+held-named ps [] h = refl
+held-named ps (r ∷ rows) h = go (r .holds) (h .0) (held-named ps rows (h .1))
+  where
+    go : (t : Bool) → (t ≡ true) ⊎ (oneOf ps (r .position) ≡ true) → (eqb (lowestFault rows) 0 || oneOf ps (lowestFault rows)) ≡ true
+        → (eqb (cond t (lowestFault rows) (r .position)) 0 || oneOf ps (cond t (lowestFault rows) (r .position))) ≡ true
+    go true a ih = ih
+    go false (inl e) ih = absurd (true-not-false false e refl)
+    go false (inr e) ih = or-right (eqb (r .position) 0) _ e
 
 -- a refusal at the fault's position, where every row has a position
 module _ (ref : ℕ → Refusal) where

@@ -17,7 +17,7 @@ use Rattle.standard.specs.Labels.{knownLevel}
 use Rattle.standard.specs.declared.Judged.the-variants.{Volume}
 use Rattle.standard.specs.declared.Geometry.{Geometry}
 use Rattle.standard.specs.declared.Checked.the-variants.{Passed}
-use Rattle.promises.specs.Ground.Basics.{and-r}
+use Rattle.promises.specs.Ground.Basics.{and-l, and-r}
 use Rattle.promises.specs.Images.Sectors.{sectorAt, AgreeOn, inIndex}
 use Rattle.promises.specs.Images.SectorLaws.{same-kind, same-body, same-first, same-valid, same-incorrect, same-failed, index-kind, index-body, slot-body}
 use Rattle.promises.specs.Volumes.Judging.{Accepted, accepted, kinds-each, kinds-all, slots-each, slots-all, clashes-same}
@@ -35,7 +35,7 @@ abbrev pub SameFront : Geometry → List ℕ → List ℕ → Type 0
 SameFront g image image′ = (n : ℕ) → n < 7 → sectorAt g image n ≡ sectorAt g image′ n
 
 abbrev pub SameViews : Geometry → List ℕ → List ℕ → Type 0
-SameViews g image image′ = (slot : ℕ) → slot ≤ slotCount g → View g image image′ slot
+SameViews g image image′ = (slot : ℕ) → 1 ≤ slot → slot ≤ slotCount g → View g image image′ slot
 
 module _ (g : Geometry) (image image′ : List ℕ) (numbers : Numbers g) where
   -- VOL1 and ERMAP, in the sectors before the labels
@@ -117,20 +117,20 @@ accepted-with g image image′ numbers front e k s extents names a =
 
 -- slots with the same views
 module _ (g : Geometry) (image image′ : List ℕ) (v : SameViews g image image′) where
-  same-shares : (s k : ℕ) → s ≤ slotCount g → k ≤ slotCount g → shares g image s k ≡ shares g image′ s k
+  same-shares : (s k : ℕ) → 1 ≤ s → s ≤ slotCount g → 1 ≤ k → k ≤ slotCount g → shares g image s k ≡ shares g image′ s k
   unfolding shares overlap
-  same-shares s k h l = let x = v s h in let y = v k l in rw (x .is-label, y .is-label, x .start, x .end, y .start, y .end)
+  same-shares s k a h b l = let x = v s a h in let y = v k b l in rw (x .is-label, y .is-label, x .start, x .end, y .start, y .end)
 
-  same-namesake : (s k : ℕ) → s ≤ slotCount g → k ≤ slotCount g → namesake g image s k ≡ namesake g image′ s k
+  same-namesake : (s k : ℕ) → 1 ≤ s → s ≤ slotCount g → 1 ≤ k → k ≤ slotCount g → namesake g image s k ≡ namesake g image′ s k
   unfolding namesake sameName
-  same-namesake s k h l = let x = v s h in let y = v k l in rw (x .is-label, y .is-label, x .level-known, y .level-known, x .name, y .name)
+  same-namesake s k a h b l = let x = v s a h in let y = v k b l in rw (x .is-label, y .is-label, x .level-known, y .level-known, x .name, y .name)
 
   pub same-has-label : (slot : ℕ) → hasLabel g image slot ≡ hasLabel g image′ slot
   unfolding hasLabel
   same-has-label slot = go (between 1 (slotCount g) slot) refl
     where
       go : (t : Bool) → between 1 (slotCount g) slot ≡ t → (t && isLabel g image slot) ≡ (t && isLabel g image′ slot)
-      go true e = v slot (leb-true slot (slotCount g) (and-r (leb 1 slot) _ e)) .is-label
+      go true e = v slot (leb-true 1 slot (and-l (leb 1 slot) _ e)) (leb-true slot (slotCount g) (and-r (leb 1 slot) _ e)) .is-label
       go false e = refl
 
   -- or if the views of its labels are the same
@@ -156,7 +156,7 @@ module _ (g : Geometry) (image image′ : List ℕ) (numbers : Numbers g) (agree
   index-slot slot l = here (slotOrdinal slot) (slot-in-index g slot numbers l)
 
   pub index-views : SameViews g image image′
-  index-views slot l = same-view g image image′ numbers slot l (index-slot slot l)
+  index-views slot _ l = same-view g image image′ numbers slot l (index-slot slot l)
 
   pub index-label : (slot : ℕ) → slot ≤ slotCount g → labelAt g image slot ≡ labelAt g image′ slot
   index-label slot l = same-label g image image′ numbers slot l (index-slot slot l)

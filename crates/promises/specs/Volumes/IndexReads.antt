@@ -38,14 +38,14 @@ index-bytes g image image′ e n h =
 
 -- slots with the same views: files found, free records
 module _ (g : Geometry) (image image′ : List ℕ) (v : SameViews g image image′) where
-  named-same : (name : List ℕ) (slot : ℕ) → slot ≤ slotCount g → isNamed g image name slot ≡ isNamed g image′ name slot
+  named-same : (name : List ℕ) (slot : ℕ) → 1 ≤ slot → slot ≤ slotCount g → isNamed g image name slot ≡ isNamed g image′ name slot
   unfolding isNamed
-  named-same name slot l = let x = v slot l in rw (x .is-label, x .level-known, x .name)
+  named-same name slot low l = let x = v slot low l in rw (x .is-label, x .level-known, x .name)
 
-  pub found-same : (name : List ℕ) (left slot : ℕ) → slot + left ≤ slotCount g + 1 → foundFrom g image name left slot ≡ foundFrom g image′ name left slot
+  pub found-same : (name : List ℕ) (left slot : ℕ) → 1 ≤ slot → slot + left ≤ slotCount g + 1 → foundFrom g image name left slot ≡ foundFrom g image′ name left slot
   unfolding foundFrom
-  found-same name zero slot l = refl
-  found-same name (suc left) slot l = rw (named-same name slot (omega arith), found-same name left (slot + 1) (omega arith))
+  found-same name zero slot low l = refl
+  found-same name (suc left) slot low l = rw (named-same name slot low (omega arith), found-same name left (slot + 1) (omega arith) (omega arith))
 
   slot-same : (slot : ℕ) → foundSlot g image slot ≡ foundSlot g image′ slot
   slot-same slot = rw (same-has-label g image image′ v slot)
@@ -53,7 +53,7 @@ module _ (g : Geometry) (image image′ : List ℕ) (v : SameViews g image image
   pub taken-same : (i n : ℕ) → n ≤ slotCount g → taken g image i n ≡ taken g image′ i n
   unfolding taken inExtent
   taken-same i zero l = refl
-  taken-same i (suc n) l = let x = v (suc n) l in rw (x .is-label, x .start, x .end, taken-same i n (omega arith))
+  taken-same i (suc n) l = let x = v (suc n) (omega arith) l in rw (x .is-label, x .start, x .end, taken-same i n (omega arith))
 
   pub free-same : (left i : ℕ) → freeFrom g image left i ≡ freeFrom g image′ left i
   unfolding freeFrom
@@ -63,7 +63,7 @@ module _ (g : Geometry) (image image′ : List ℕ) (v : SameViews g image image
   module _ (j : judged image ≡ Volume g) (j′ : judged image′ ≡ Volume g) where
     pub views-found : (name : List ℕ) → found image name ≡ found image′ name
     unfolding found
-    views-found name = rw (j, j′) (found-same name (slotCount g) 1 (omega arith))
+    views-found name = rw (j, j′) (found-same name (slotCount g) 1 (omega arith) (omega arith))
 
     pub views-found-at : (slot : ℕ) → foundAt image slot ≡ foundAt image′ slot
     unfolding foundAt
@@ -77,31 +77,31 @@ module _ (g : Geometry) (image image′ : List ℕ) (v : SameViews g image image
 module _ (g : Geometry) (image : List ℕ) where
   abbrev Within : Found → Type 0
   Within (Unfound r) = Unit {0}
-  Within (At slot offset) = slot ≤ slotCount g
+  Within (At slot offset) = (1 ≤ slot) × (slot ≤ slotCount g)
 
-  found-within : (name : List ℕ) (left slot : ℕ) → slot + left ≤ slotCount g + 1 → Within (foundFrom g image name left slot)
+  found-within : (name : List ℕ) (left slot : ℕ) → 1 ≤ slot → slot + left ≤ slotCount g + 1 → Within (foundFrom g image name left slot)
   unfolding foundFrom
-  found-within name zero slot l = tt
-  found-within name (suc left) slot l =
-      let k = found-within name left (slot + 1) (omega arith) in
-      cond-elim Within (isNamed g image name slot) (λ _. omega arith) (λ _. k)
+  found-within name zero slot low l = tt
+  found-within name (suc left) slot low l =
+      let k = found-within name left (slot + 1) (omega arith) (omega arith) in
+      cond-elim Within (isNamed g image name slot) (λ _. (low, omega arith)) (λ _. k)
 
   slot-within : (slot : ℕ) → Within (foundSlot g image slot)
-  slot-within slot = cond-elim Within (hasLabel g image slot) (λ e. has-slot g image slot e .1) (λ _. tt)
+  slot-within slot = cond-elim Within (hasLabel g image slot) (λ e. (has-slot g image slot e .0, has-slot g image slot e .1)) (λ _. tt)
 
 -- two accepted images whose labels, and with them their views, are the same: the labels handed out
 module _ (g : Geometry) (image image′ : List ℕ) (v : SameViews g image image′)
-    (labels : (slot : ℕ) → slot ≤ slotCount g → labelAt g image slot ≡ labelAt g image′ slot) (j : judged image ≡ Volume g) (j′ : judged image′ ≡ Volume g) where
+    (labels : (slot : ℕ) → 1 ≤ slot → slot ≤ slotCount g → labelAt g image slot ≡ labelAt g image′ slot) (j : judged image ≡ Volume g) (j′ : judged image′ ≡ Volume g) where
   part-alike : (f : Found) → Within g image f → labelPart g image f ≡ labelPart g image′ f
   part-alike (Unfound r) l = refl
-  part-alike (At slot offset) l = labels slot l
+  part-alike (At slot offset) l = labels slot (l .0) (l .1)
 
   pub labels-named : (name : List ℕ) → labelNamed image name ≡ labelNamed image′ name
   unfolding labelNamed
   labels-named name =
       rw (j, j′)
-      (part-alike (foundFrom g image name (slotCount g) 1) (found-within g image name (slotCount g) 1 (omega arith))
-      ∙ ap (labelPart g image′) (found-same g image image′ v name (slotCount g) 1 (omega arith)))
+      (part-alike (foundFrom g image name (slotCount g) 1) (found-within g image name (slotCount g) 1 (omega arith) (omega arith))
+      ∙ ap (labelPart g image′) (found-same g image image′ v name (slotCount g) 1 (omega arith) (omega arith)))
 
   pub labels-in : (slot : ℕ) → labelInSlot image slot ≡ labelInSlot image′ slot
   unfolding labelInSlot
@@ -118,8 +118,8 @@ module _ (image image′ : List ℕ) (g g′ : Geometry) (j : judged image ≡ V
   views : SameViews g image image′
   views = index-views g image image′ (numbers-of image g j) agree
 
-  same-labels : (slot : ℕ) → slot ≤ slotCount g → labelAt g image slot ≡ labelAt g image′ slot
-  same-labels = index-label g image image′ (numbers-of image g j) agree
+  same-labels : (slot : ℕ) → 1 ≤ slot → slot ≤ slotCount g → labelAt g image slot ≡ labelAt g image′ slot
+  same-labels slot _ = index-label g image image′ (numbers-of image g j) agree slot
 
   pub index-found : (name : List ℕ) → found image name ≡ found image′ name
   index-found = views-found g image image′ views j judged-same

@@ -235,14 +235,14 @@ clash-none clash number count h =
     (λ n l m. below-none clash n (n - 1) (λ lower a b. h n lower a (omega arith) (omega arith)))
 
 -- clashes, where two ways to ask agree
-module _ (clash clash′ : ℕ → ℕ → Bool) (count : ℕ) (same : (s l : ℕ) → s ≤ count → l ≤ count → clash s l ≡ clash′ s l) where
-  below-same : (slot n : ℕ) → slot ≤ count → n ≤ count → clashesBelow clash slot n ≡ clashesBelow clash′ slot n
+module _ (clash clash′ : ℕ → ℕ → Bool) (count : ℕ) (same : (s l : ℕ) → 1 ≤ s → s ≤ count → 1 ≤ l → l ≤ count → clash s l ≡ clash′ s l) where
+  below-same : (slot n : ℕ) → 1 ≤ slot → slot ≤ count → n ≤ count → clashesBelow clash slot n ≡ clashesBelow clash′ slot n
   unfolding clashesBelow
-  below-same slot zero h l = refl
-  below-same slot (suc n) h l = rw (same slot (suc n) h l, below-same slot n h (omega arith))
+  below-same slot zero low h l = refl
+  below-same slot (suc n) low h l = rw (same slot (suc n) low h (omega arith) l, below-same slot n low h (omega arith))
 
   pub clashes-same : (number left first : ℕ) → 1 ≤ first → first + left ≤ count + 1 → clashesFrom clash number left first ≡ clashesFrom clash′ number left first
   unfolding clashesFrom
   clashes-same number zero first h l = refl
   clashes-same number (suc left) first h l =
-      rw (below-same first (first - 1) (omega arith) (omega arith), clashes-same number left (first + 1) (omega arith) (omega arith))
+      rw (below-same first (first - 1) h (omega arith) (omega arith), clashes-same number left (first + 1) (omega arith) (omega arith))

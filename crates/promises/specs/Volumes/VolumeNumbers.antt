@@ -56,7 +56,7 @@ kinds-few c h = go (eqb c 32) (eqb c 49) (eqb c 50) (eqb c 51) refl refl refl re
 pub of-rules : (image : List ℕ) → lowestFault (vol1Rules (vol1Of image)) ≡ 0 → Numbers (volumeOf image)
 unfolding vol1Rules numbersIn
 of-rules image z =
-    let (r1, (r5, (r11, (r38, (r72, (r76, (r77, (r79, (r81, (r83, (r85, (r89, _)))))))))))) = rows-each _ z refl in
+    let (r1, (r5, (r11, (r38, (r72, (r76, (r77, (r80, (r81, (r83, (r85, (r89, _)))))))))))) = rows-each _ z refl in
     let v = vol1Of image in
     let l = hex-bounds 1 96 (field v 81 82) r81 in
     let i = hex-bounds 8 26 (field v 83 84) r83 in

@@ -55,7 +55,7 @@ module _ (image : List ℕ) (g : Geometry) (slot : ℕ) (bodies lengths : List �
       }
 
   pub views : SameViews g image t
-  views s l =
+  views s _ l =
       either (eq-or-not s slot)
       (λ (q : s ≡ slot). subst (λ (x : ℕ). View g image t x) (sym q) this-view)
       (λ (ne : s ≡ slot → ⊥). same-view g image t (numbers-of image g j) s l (other-sector s l ne))

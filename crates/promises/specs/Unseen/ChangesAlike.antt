@@ -1,4 +1,5 @@
--- Two images equal but for the bodies of check-failed sectors: writing a file, creating and deleting one are answered alike, and leave two such images.
+-- Two images equal but for the bodies of check-failed sectors, and for positions that are not judged: writing a file, creating and deleting one are answered alike,
+-- and leave two such images.
 -- Assumes nothing.
 use Prim.Native.Nat.{ℕ, zero, suc, _+_, _≤_}
 use mathlib.Core.Path.{_≡_, refl, sym, ap, subst, _∙_}
@@ -23,7 +24,7 @@ use Rattle.standard.specs.declared.Written.the-variants.{Unwritten, Blocks}
 use Rattle.standard.specs.declared.Created.the-variants.{Uncreated}
 use Rattle.standard.specs.declared.Counted.the-variants.{Uncounted, Count}
 use Rattle.promises.specs.Ground.Basics.{by-test}
-use Rattle.promises.specs.Images.Untrusted.{EqualButFailed, unfailed-same}
+use Rattle.promises.specs.Images.Alike.{Loose, NoneJudged, or-failed, EqualBut, unfailed-same}
 use Rattle.promises.specs.Images.SectorLaws.{same-failed}
 use Rattle.promises.specs.Volumes.Judging.{judged-from}
 use Rattle.promises.specs.Volumes.AcceptedLaws.{image-length, has-slot}
@@ -37,20 +38,20 @@ use Rattle.promises.specs.Writing.WrittenImage.{stored-slot}
 use Rattle.promises.specs.Writing.AcceptedAgain.{again}
 use Rattle.promises.specs.Making.Creations.{creatable, creation-is, created-fields, create-accepted}
 use Rattle.promises.specs.Making.Deletions.{deletable, deletion-is, delete-accepted}
-use Rattle.promises.specs.Trust.AnswersAlike.{AlikeOn, alike-on, slot-unfailed, slot-same, label-same, views, file-alike, by-judgement}
-use Rattle.promises.specs.Trust.LeftAlike.{equal-from, blocks-alike, set-alike, slot-stored-alike}
+use Rattle.promises.specs.Unseen.AnswersAlike.{AlikeOn, alike-on, slot-unfailed, slot-same, label-same, views, file-alike, by-judgement}
+use Rattle.promises.specs.Unseen.LeftAlike.{equal-from, blocks-alike, set-alike, slot-stored-alike}
 
-module _ (image image′ : List ℕ) (g : Geometry) (j : judged image ≡ Volume g) (e : EqualButFailed image image′) where
+module _ (loose : Loose) (u : NoneJudged loose) (image image′ : List ℕ) (g : Geometry) (j : judged image ≡ Volume g) (e : EqualBut loose image image′) where
   ns : Numbers g
   ns = numbers-of image g j
 
-  abbrev alike : AlikeOn g image image′
-  alike = alike-on image image′ g j e
+  abbrev alike : AlikeOn loose g image image′
+  alike = alike-on loose u image image′ g j e
 
   -- ---- WRITING
   module _ (slot : ℕ) (bodies lengths : List ℕ) where
     write-refusal-alike : writeRefusal g image slot bodies lengths ≡ writeRefusal g image′ slot bodies lengths
-    write-refusal-alike = write-same g image image′ slot (ns .size-low) (file-alike image image′ g j e slot) bodies lengths
+    write-refusal-alike = write-same g image image′ slot (ns .size-low) (file-alike loose u image image′ g j e slot) bodies lengths
 
     module _ (w : writeRefusal g image slot bodies lengths ≡ Passed) where
       abbrev h : List ℕ
@@ -61,39 +62,43 @@ module _ (image image′ : List ℕ) (g : Geometry) (j : judged image ≡ Volume
 
       good-alike : goodRecords g image h ≡ goodRecords g image′ h
       good-alike =
-          alike-good-records g image image′ (ns .size-low) h (file-alike image image′ g j e slot .sectors (passing g image slot bodies lengths w .labelled))
+          alike-good-records g image image′ (ns .size-low) h (file-alike loose u image image′ g j e slot .sectors (passing g image slot bodies lengths w .labelled))
 
-      with-alike : AlikeOn g (imageWith g image slot (packing h bodies lengths)) (imageWith g image′ slot (packing (labelAt g image′ slot) bodies lengths))
+      behind : (s : ℕ) → 1 ≤ s → 7 ≤ slotOrdinal s
+      unfolding slotOrdinal
+      behind s low = omega arith
+
+      with-alike : AlikeOn loose g (imageWith g image slot (packing h bodies lengths)) (imageWith g image′ slot (packing (labelAt g image′ slot) bodies lengths))
       unfolding imageWith dataEndAfter
       with-alike =
           let s = has-slot g image slot (passing g image slot bodies lengths w .labelled) in
-          let b = blocks-alike g (recordsToBlock g h) (packing h bodies lengths .contents) (goodRecords g image h) image image′
+          let b = blocks-alike loose g ns (recordsToBlock g h) (packing h bodies lengths .contents) (goodRecords g image h) image image′
           (taken-legal image g slot bodies lengths j w) (image-length image g j) alike in
           let f : checkFailed g (fill image) (slotOrdinal slot) ≡ false =
-          sym (same-failed g image (fill image) (slotOrdinal slot) (stored-slot image g slot bodies lengths j w)) ∙ slot-unfailed image image′ g j e slot (s .1) in
-          let same = unfailed-same g (fill image) (fill image′) (slotOrdinal slot) (b .1 .sectors (slotOrdinal slot)) f in
-          rw (sym (label-same image image′ g j e slot (s .1)), sym good-alike)
-          (set-alike g ns slot (s .0) (s .1) (fill image) (fill image′) (b .0) (b .1) same _ _)
+          sym (same-failed g image (fill image) (slotOrdinal slot) (stored-slot image g slot bodies lengths j w)) ∙ slot-unfailed loose u image image′ g j e slot (s .0) (s .1) in
+          let same = unfailed-same g (fill image) (fill image′) (slotOrdinal slot) (or-failed loose g (fill image) (fill image′) (slotOrdinal slot) (b .1 .sectors (slotOrdinal slot) (behind slot (s .0)))) f in
+          rw (sym (label-same loose u image image′ g j e slot (s .0) (s .1)), sym good-alike)
+          (set-alike loose g ns slot (s .0) (s .1) (fill image) (fill image′) (b .0) (b .1) same _ _)
 
-      with-equal : EqualButFailed (imageWith g image slot (packing h bodies lengths)) (imageWith g image′ slot (packing (labelAt g image′ slot) bodies lengths))
-      with-equal = equal-from _ _ g (judged-from _ g (again image g slot bodies lengths j w)) with-alike
+      with-equal : EqualBut loose (imageWith g image slot (packing h bodies lengths)) (imageWith g image′ slot (packing (labelAt g image′ slot) bodies lengths))
+      with-equal = equal-from loose _ _ g (judged-from _ g (again image g slot bodies lengths j w)) with-alike
 
   -- ---- CREATING
-  deleted-from-alike : (left slot : ℕ) → slot + left ≤ slotCount g + 1 → deletedFrom g image left slot ≡ deletedFrom g image′ left slot
+  deleted-from-alike : (left slot : ℕ) → 1 ≤ slot → slot + left ≤ slotCount g + 1 → deletedFrom g image left slot ≡ deletedFrom g image′ left slot
   unfolding deletedFrom
-  deleted-from-alike zero slot l = refl
-  deleted-from-alike (suc left) slot l =
+  deleted-from-alike zero slot low l = refl
+  deleted-from-alike (suc left) slot low l =
       let i : slot ≤ slotCount g = omega arith in
-      rw (same-is-deleted g image image′ ns slot i (slot-same image image′ g j e slot i), deleted-from-alike left (slot + 1) (omega arith))
+      rw (same-is-deleted g image image′ ns slot i (slot-same loose u image image′ g j e slot low i), deleted-from-alike left (slot + 1) (omega arith) (omega arith))
 
   lowest-deleted-alike : lowestDeleted g image ≡ lowestDeleted g image′
   unfolding lowestDeleted
-  lowest-deleted-alike = deleted-from-alike (slotCount g) 1 (omega arith)
+  lowest-deleted-alike = deleted-from-alike (slotCount g) 1 (omega arith) (omega arith)
 
   free-run-alike : (n i : ℕ) → freeRun g image n i ≡ freeRun g image′ n i
   unfolding freeRun
   free-run-alike zero i = refl
-  free-run-alike (suc n) i = rw (taken-same g image image′ (views image image′ g j e) i (slotCount g) (omega arith), free-run-alike n (i + 1))
+  free-run-alike (suc n) i = rw (taken-same g image image′ (views loose u image image′ g j e) i (slotCount g) (omega arith), free-run-alike n (i + 1))
 
   run-from-alike : (n left i : ℕ) → runFrom g image n left i ≡ runFrom g image′ n left i
   unfolding runFrom
@@ -108,38 +113,38 @@ module _ (image image′ : List ℕ) (g : Geometry) (j : judged image ≡ Volume
     create-refusal-alike : createRefusal g image w n ≡ createRefusal g image′ w n
     unfolding createRefusal
     create-refusal-alike =
-        rw (found-same g image image′ (views image image′ g j e) (nameIn w) (slotCount g) 1 (omega arith), lowest-deleted-alike, lowest-run-alike n)
+        rw (found-same g image image′ (views loose u image image′ g j e) (nameIn w) (slotCount g) 1 (omega arith) (omega arith), lowest-deleted-alike, lowest-run-alike n)
 
-    created-equal : createRefusal g image w n ≡ Passed → EqualButFailed (imageCreated g image w n) (imageCreated g image′ w n)
+    created-equal : createRefusal g image w n ≡ Passed → EqualBut loose (imageCreated g image w n) (imageCreated g image′ w n)
     unfolding imageCreated
     created-equal c =
         let s = creatable image g w n j c .slot in
         let short : length (createdLabel g image w n) ≤ 128 = omega (arith, created-fields image g w n j c .whole) in
-        equal-from _ _ g (create-accepted image g w n j c)
+        equal-from loose _ _ g (create-accepted image g w n j c)
         (rw (sym lowest-deleted-alike, sym (lowest-run-alike n))
-        (slot-stored-alike g ns (lowestDeleted g image) (s .low) (s .high) image image′ (image-length image g j) alike
-        (slot-same image image′ g j e (lowestDeleted g image) (s .high)) 0 (createdLabel g image w n) short))
+        (slot-stored-alike loose g ns (lowestDeleted g image) (s .low) (s .high) image image′ (image-length image g j) alike
+        (slot-same loose u image image′ g j e (lowestDeleted g image) (s .low) (s .high)) 0 (createdLabel g image w n) short))
 
   -- ---- DELETING
   module _ (slot : ℕ) where
     delete-refusal-alike : deleteRefusal g image slot ≡ deleteRefusal g image′ slot
     unfolding deleteRefusal inOrder given-when
     delete-refusal-alike =
-        let same = file-alike image image′ g j e slot in
+        let same = file-alike loose u image image′ g j e slot in
         by-test (hasLabel g image slot)
         (λ (l : hasLabel g image slot ≡ true). rw (same .has, same .label l))
         (λ (l : hasLabel g image slot ≡ false). rw (l, sym (same .has) ∙ l))
 
     module _ (d : deleteRefusal g image slot ≡ Passed) where
       own-label : labelAt g image slot ≡ labelAt g image′ slot
-      own-label = file-alike image image′ g j e slot .label (deletable g image slot d .labelled)
+      own-label = file-alike loose u image image′ g j e slot .label (deletable g image slot d .labelled)
 
-      without-equal : EqualButFailed (imageWithout g slot image) (imageWithout g slot image′)
+      without-equal : EqualBut loose (imageWithout g slot image) (imageWithout g slot image′)
       without-equal =
           let s = has-slot g image slot (deletable g image slot d .labelled) in
-          let same = slot-same image image′ g j e slot (s .1) in
-          equal-from _ _ g (delete-accepted image g slot j d)
-          (slot-stored-alike g ns slot (s .0) (s .1) image image′ (image-length image g j) alike same 16 (byte "D" ∷ []) (omega arith))
+          let same = slot-same loose u image image′ g j e slot (s .0) (s .1) in
+          equal-from loose _ _ g (delete-accepted image g slot j d)
+          (slot-stored-alike loose g ns slot (s .0) (s .1) image image′ (image-length image g j) alike same 16 (byte "D" ∷ []) (omega arith))
 
 -- ---- ANY TWO IMAGES
 -- what a call leaves that is refused, by the volume or by its own list: the image
@@ -172,83 +177,83 @@ deletion-stopped : (image : List ℕ) (g : Geometry) (r : Refusal) (slot : ℕ) 
 unfolding deletion
 deletion-stopped image g r slot j d = rw (j, d)
 
--- the same answer, and images equal but for the bodies of check-failed sectors
-abbrev WrittenAlike : Outcome → Outcome → Type 0
-WrittenAlike o o′ = (o .answer ≡ o′ .answer) × EqualButFailed (o .image) (o′ .image)
+-- the same answer, and two such images
+abbrev WrittenAlike : Loose → Outcome → Outcome → Type 0
+WrittenAlike loose o o′ = (o .answer ≡ o′ .answer) × EqualBut loose (o .image) (o′ .image)
 
-abbrev CreatedAlike : Creation → Creation → Type 0
-CreatedAlike o o′ = (o .answer ≡ o′ .answer) × EqualButFailed (o .image) (o′ .image)
+abbrev CreatedAlike : Loose → Creation → Creation → Type 0
+CreatedAlike loose o o′ = (o .answer ≡ o′ .answer) × EqualBut loose (o .image) (o′ .image)
 
-abbrev DeletedAlike : Deletion → Deletion → Type 0
-DeletedAlike o o′ = (o .answer ≡ o′ .answer) × EqualButFailed (o .image) (o′ .image)
+abbrev DeletedAlike : Loose → Deletion → Deletion → Type 0
+DeletedAlike loose o o′ = (o .answer ≡ o′ .answer) × EqualBut loose (o .image) (o′ .image)
 
 carried : {A : Type 0} (R : A → A → Type 0) (x x′ : A) {y y′ : A} → x ≡ y → x′ ≡ y′ → R y y′ → R x x′
 carried {A = A} R x x′ {y = y} p q r = subst (λ (a : A). R a x′) (sym p) (subst (R y) (sym q) r)
 
-module _ (image image′ : List ℕ) (e : EqualButFailed image image′) where
-  write-alike : (slot : ℕ) (bodies lengths : List ℕ) → WrittenAlike (outcome image slot bodies lengths) (outcome image′ slot bodies lengths)
+module _ (loose : Loose) (u : NoneJudged loose) (image image′ : List ℕ) (e : EqualBut loose image image′) where
+  write-alike : (slot : ℕ) (bodies lengths : List ℕ) → WrittenAlike loose (outcome image slot bodies lengths) (outcome image′ slot bodies lengths)
   write-alike slot bodies lengths =
-      by-judgement image image′ e
-      (λ r j j′. carried WrittenAlike _ _ (outcome-refused image r slot bodies lengths j) (outcome-refused image′ r slot bodies lengths j′) (refl, e))
+      by-judgement loose u image image′ e
+      (λ r j j′. carried (WrittenAlike loose) _ _ (outcome-refused image r slot bodies lengths j) (outcome-refused image′ r slot bodies lengths j′) (refl, e))
       (λ g j j′. go g j j′ (writeRefusal g image slot bodies lengths) refl)
     where
       go : (g : Geometry) → judged image ≡ Volume g → judged image′ ≡ Volume g → (c : Checked) → writeRefusal g image slot bodies lengths ≡ c
-          → WrittenAlike (outcome image slot bodies lengths) (outcome image′ slot bodies lengths)
+          → WrittenAlike loose (outcome image slot bodies lengths) (outcome image′ slot bodies lengths)
       go g j j′ Passed w =
-          let w′ = sym (write-refusal-alike image image′ g j e slot bodies lengths) ∙ w in
-          let h = label-same image image′ g j e slot (slot-inside image g slot bodies lengths j w) in
-          carried WrittenAlike _ _ (outcome-is image g slot bodies lengths j w) (outcome-is image′ g slot bodies lengths j′ w′)
-          (ap (λ (x : List ℕ). Blocks (needed x bodies lengths)) h, with-equal image image′ g j e slot bodies lengths w)
+          let w′ = sym (write-refusal-alike loose u image image′ g j e slot bodies lengths) ∙ w in
+          let h = label-same loose u image image′ g j e slot (has-slot g image slot (passing g image slot bodies lengths w .labelled) .0) (slot-inside image g slot bodies lengths j w) in
+          carried (WrittenAlike loose) _ _ (outcome-is image g slot bodies lengths j w) (outcome-is image′ g slot bodies lengths j′ w′)
+          (ap (λ (x : List ℕ). Blocks (needed x bodies lengths)) h, with-equal loose u image image′ g j e slot bodies lengths w)
       go g j j′ (Stopped r) w =
-          let w′ = sym (write-refusal-alike image image′ g j e slot bodies lengths) ∙ w in
-          carried WrittenAlike _ _ (outcome-stopped image g r slot bodies lengths j w) (outcome-stopped image′ g r slot bodies lengths j′ w′) (refl, e)
+          let w′ = sym (write-refusal-alike loose u image image′ g j e slot bodies lengths) ∙ w in
+          carried (WrittenAlike loose) _ _ (outcome-stopped image g r slot bodies lengths j w) (outcome-stopped image′ g r slot bodies lengths j′ w′) (refl, e)
 
-  create-alike : (w : List ℕ) (n : ℕ) → CreatedAlike (creation image w n) (creation image′ w n)
+  create-alike : (w : List ℕ) (n : ℕ) → CreatedAlike loose (creation image w n) (creation image′ w n)
   create-alike w n =
-      by-judgement image image′ e
-      (λ r j j′. carried CreatedAlike _ _ (creation-refused image r w n j) (creation-refused image′ r w n j′) (refl, e))
+      by-judgement loose u image image′ e
+      (λ r j j′. carried (CreatedAlike loose) _ _ (creation-refused image r w n j) (creation-refused image′ r w n j′) (refl, e))
       (λ g j j′. go g j j′ (createRefusal g image w n) refl)
     where
       go : (g : Geometry) → judged image ≡ Volume g → judged image′ ≡ Volume g → (c : Checked) → createRefusal g image w n ≡ c
-          → CreatedAlike (creation image w n) (creation image′ w n)
+          → CreatedAlike loose (creation image w n) (creation image′ w n)
       go g j j′ Passed c =
-          let c′ = sym (create-refusal-alike image image′ g j e w n) ∙ c in
-          carried CreatedAlike _ _ (creation-is image g w n j c) (creation-is image′ g w n j′ c′)
-          (rw (lowest-deleted-alike image image′ g j e, lowest-run-alike image image′ g j e n), created-equal image image′ g j e w n c)
+          let c′ = sym (create-refusal-alike loose u image image′ g j e w n) ∙ c in
+          carried (CreatedAlike loose) _ _ (creation-is image g w n j c) (creation-is image′ g w n j′ c′)
+          (rw (lowest-deleted-alike loose u image image′ g j e, lowest-run-alike loose u image image′ g j e n), created-equal loose u image image′ g j e w n c)
       go g j j′ (Stopped r) c =
-          let c′ = sym (create-refusal-alike image image′ g j e w n) ∙ c in
-          carried CreatedAlike _ _ (creation-stopped image g r w n j c) (creation-stopped image′ g r w n j′ c′) (refl, e)
+          let c′ = sym (create-refusal-alike loose u image image′ g j e w n) ∙ c in
+          carried (CreatedAlike loose) _ _ (creation-stopped image g r w n j c) (creation-stopped image′ g r w n j′ c′) (refl, e)
 
-  delete-alike : (slot : ℕ) → DeletedAlike (deletion image slot) (deletion image′ slot)
+  delete-alike : (slot : ℕ) → DeletedAlike loose (deletion image slot) (deletion image′ slot)
   delete-alike slot =
-      by-judgement image image′ e
-      (λ r j j′. carried DeletedAlike _ _ (deletion-refused image r slot j) (deletion-refused image′ r slot j′) (refl, e))
+      by-judgement loose u image image′ e
+      (λ r j j′. carried (DeletedAlike loose) _ _ (deletion-refused image r slot j) (deletion-refused image′ r slot j′) (refl, e))
       (λ g j j′. go g j j′ (deleteRefusal g image slot) refl)
     where
       go : (g : Geometry) → judged image ≡ Volume g → judged image′ ≡ Volume g → (c : Checked) → deleteRefusal g image slot ≡ c
-          → DeletedAlike (deletion image slot) (deletion image′ slot)
+          → DeletedAlike loose (deletion image slot) (deletion image′ slot)
       go g j j′ Passed d =
-          let d′ = sym (delete-refusal-alike image image′ g j e slot) ∙ d in
-          carried DeletedAlike _ _ (deletion-is image g slot j d) (deletion-is image′ g slot j′ d′)
-          (ap (λ (x : List ℕ). Count (extentSize g x)) (own-label image image′ g j e slot d), without-equal image image′ g j e slot d)
+          let d′ = sym (delete-refusal-alike loose u image image′ g j e slot) ∙ d in
+          carried (DeletedAlike loose) _ _ (deletion-is image g slot j d) (deletion-is image′ g slot j′ d′)
+          (ap (λ (x : List ℕ). Count (extentSize g x)) (own-label loose u image image′ g j e slot d), without-equal loose u image image′ g j e slot d)
       go g j j′ (Stopped r) d =
-          let d′ = sym (delete-refusal-alike image image′ g j e slot) ∙ d in
-          carried DeletedAlike _ _ (deletion-stopped image g r slot j d) (deletion-stopped image′ g r slot j′ d′) (refl, e)
+          let d′ = sym (delete-refusal-alike loose u image image′ g j e slot) ∙ d in
+          carried (DeletedAlike loose) _ _ (deletion-stopped image g r slot j d) (deletion-stopped image′ g r slot j′ d′) (refl, e)
 
   pub written-alike : (slot : ℕ) (bodies lengths : List ℕ) → written image slot bodies lengths ≡ written image′ slot bodies lengths
   written-alike slot bodies lengths = write-alike slot bodies lengths .0
 
-  pub write-leaves-alike : (slot : ℕ) (bodies lengths : List ℕ) → EqualButFailed (imageAfter image slot bodies lengths) (imageAfter image′ slot bodies lengths)
+  pub write-leaves-alike : (slot : ℕ) (bodies lengths : List ℕ) → EqualBut loose (imageAfter image slot bodies lengths) (imageAfter image′ slot bodies lengths)
   write-leaves-alike slot bodies lengths = write-alike slot bodies lengths .1
 
   pub created-alike : (w : List ℕ) (n : ℕ) → created image w n ≡ created image′ w n
   created-alike w n = create-alike w n .0
 
-  pub create-leaves-alike : (w : List ℕ) (n : ℕ) → EqualButFailed (imageAfterCreate image w n) (imageAfterCreate image′ w n)
+  pub create-leaves-alike : (w : List ℕ) (n : ℕ) → EqualBut loose (imageAfterCreate image w n) (imageAfterCreate image′ w n)
   create-leaves-alike w n = create-alike w n .1
 
   pub deleted-alike : (slot : ℕ) → deleted image slot ≡ deleted image′ slot
   deleted-alike slot = delete-alike slot .0
 
-  pub delete-leaves-alike : (slot : ℕ) → EqualButFailed (imageAfterDelete image slot) (imageAfterDelete image′ slot)
+  pub delete-leaves-alike : (slot : ℕ) → EqualBut loose (imageAfterDelete image slot) (imageAfterDelete image′ slot)
   delete-leaves-alike slot = delete-alike slot .1

@@ -1,6 +1,7 @@
--- Two images that are equal but for the bodies of check-failed sectors are judged alike: the same refusal with the same place, or the same numbers.
+-- Two images that are equal but for the bodies of check-failed sectors, and for positions that are not judged, are judged alike: the same refusal with the same
+-- place, or the same numbers.
 -- Assumes nothing.
-use Prim.Native.Nat.{ℕ, zero, suc, _+_, _<_, _≤_}
+use Prim.Native.Nat.{ℕ, zero, suc, _+_, _-_, _<_, _≤_}
 use mathlib.Core.Path.{_≡_, refl, sym, ap, subst, _∙_}
 use mathlib.Core.Bool.{Bool, true, false, not, _&&_}
 use mathlib.Core.Logic.{inl, inr}
@@ -12,36 +13,45 @@ use native.Mathlib.Nat.{eq-or-lt-of-le}
 use borrow.Author.Tests.{eqb-true, not-false, ltb-false}
 use Rattle.standard.specs.Characters.{byte}
 use Rattle.standard.specs.Refusals.{given-when, inOrder, orElse}
-use Rattle.standard.specs.Layout.{sectorCount, imageLength, kindOffset, validMark, indexKind, indexBody, vol1Of, ermapOf, slotCount, slotOrdinal, labelAt}
-use Rattle.standard.specs.Volume.{vol1Rules}
+use Rattle.standard.specs.Layout.{sectorCount, indexSectors, imageLength, kindOffset, kindAt, validMark, indexKind, indexBody, vol1Of, ermapOf, slotCount, slotOrdinal, labelAt}
+use Rattle.standard.specs.Volume.{vol1Rules, volumeName}
+use Rattle.standard.specs.Defects.{ermapRules}
 use Rattle.standard.specs.Rules.{lowestFault}
 use Rattle.standard.specs.Slots.{isLabel, isDeleted, isUnreadable, slotRefusal, slotsFrom}
-use Rattle.standard.specs.Judgement.{volumeOf, refusal1, refusal2, refusal6, refusal7, refusal8to10, refusal11, refusal12, kindsFrom, overlap, sameName, shares, namesake, volumeRefusal, verdict, judged}
+use Rattle.standard.specs.Judgement.{volumeOf, legalKind, refusal1, refusal2, refusal6, refusal7, refusal8to10, refusal11, refusal12, kindsFrom, overlap, sameName, shares, namesake, volumeRefusal, verdict, judged}
 use Rattle.standard.specs.declared.Geometry.{Geometry}
 use Rattle.standard.specs.declared.Refusal.{Refusal}
 use Rattle.standard.specs.declared.Checked.{Checked}
 use Rattle.standard.specs.declared.Checked.the-variants.{Passed, Stopped}
 use Rattle.promises.specs.Ground.Basics.{either, lt-or-le, by-test, and-l}
 use Rattle.promises.specs.Images.Tiling.{sectors-apart, last-sector}
-use Rattle.promises.specs.Images.SectorLaws.{sector-from-bytes}
-use Rattle.promises.specs.Images.Untrusted.{SameOrFailed, FrontAlike, layoutList, SectorsKnown, EqualButFailed, swap-sector, alike-valid, alike-failed, alike-legal-kind, alike-marked, valid-same}
+use Rattle.promises.specs.Images.SectorLaws.{sector-from-bytes, kind-legal, index-kind}
+use Rattle.promises.specs.Images.Unjudged.{SameBut, vol1-rules-same, access-same, volume-name-same, vol1-numbers-same, ermap-rules-same, ermap-numbers-same}
+use Rattle.promises.specs.Images.Alike.{Loose, NoneJudged, SameOrFailed, SameOrLoose, or-failed, FrontAlike, layoutList, SectorsKnown, EqualBut, swap-sector, alike-valid, alike-failed, alike-legal-kind, alike-marked, valid-same}
 use Rattle.promises.specs.Volumes.Judging.{order-each, order-append, not-given, clashes-same}
-use Rattle.promises.specs.Volumes.VolumeNumbers.{Numbers, of-rules, slot-in-index}
+use Rattle.promises.specs.Volumes.VolumeNumbers.{Numbers, of-rules, index-sectors, slot-in-index}
 use Rattle.promises.specs.Volumes.IndexLaws.{same-label}
 
 -- ---- 6 TO 12, which look at sectors and slots: of images with the same numbers
-module _ (g : Geometry) (image image′ : List ℕ) (numbers : Numbers g) (alike : (n : ℕ) → n < sectorCount g → SameOrFailed g image image′ n) where
+module _ (g : Geometry) (image image′ : List ℕ) (numbers : Numbers g) (kinds : (n : ℕ) → n < 7 → kindAt g image n ≡ kindAt g image′ n)
+    (alike : (n : ℕ) → 7 ≤ n → n < sectorCount g → SameOrFailed g image image′ n) where
+  kind-alike : (n : ℕ) → n < sectorCount g → legalKind g image n ≡ legalKind g image′ n
+  kind-alike n l =
+      either (lt-or-le n 7)
+      (λ (f : n < 7). kind-legal g image image′ n (kinds n f))
+      (λ (f : 7 ≤ n). alike-legal-kind g image image′ n (alike n f l))
+
   kinds-alike : (left first : ℕ) → first + left ≤ sectorCount g → kindsFrom g image left first ≡ kindsFrom g image′ left first
   unfolding kindsFrom
   kinds-alike zero first l = refl
   kinds-alike (suc left) first l =
-      rw (alike-legal-kind g image image′ first (alike first (omega arith)), kinds-alike left (first + 1) (omega arith))
+      rw (kind-alike first (omega arith), kinds-alike left (first + 1) (omega arith))
 
   -- a slot. A label is looked at only behind the valid mark
-  module _ (slot : ℕ) (l : slot ≤ slotCount g) where
+  module _ (slot : ℕ) (low : 1 ≤ slot) (l : slot ≤ slotCount g) where
     slot-alike : SameOrFailed g image image′ (slotOrdinal slot)
-    unfolding sectorCount
-    slot-alike = alike (slotOrdinal slot) (omega (arith, slot-in-index g slot numbers l))
+    unfolding sectorCount slotOrdinal
+    slot-alike = alike (slotOrdinal slot) (omega arith) (omega (arith, slot-in-index g slot numbers l))
 
     valid-label : validMark g image (slotOrdinal slot) ≡ true → labelAt g image slot ≡ labelAt g image′ slot
     valid-label v = same-label g image image′ numbers slot l (valid-same g image image′ (slotOrdinal slot) slot-alike v)
@@ -77,13 +87,13 @@ module _ (g : Geometry) (image image′ : List ℕ) (numbers : Numbers g) (alike
         (λ (h : isLabel g image slot ≡ true). rw (is-unreadable-alike, is-deleted-alike, is-label-alike, label-alike h))
         (λ (h : isLabel g image slot ≡ false). rw (is-unreadable-alike, is-deleted-alike, h, sym is-label-alike ∙ h))
 
-  slots-alike : (left slot : ℕ) → slot + left ≤ slotCount g + 1 → slotsFrom g image left slot ≡ slotsFrom g image′ left slot
+  slots-alike : (left slot : ℕ) → 1 ≤ slot → slot + left ≤ slotCount g + 1 → slotsFrom g image left slot ≡ slotsFrom g image′ left slot
   unfolding slotsFrom
-  slots-alike zero slot l = refl
-  slots-alike (suc left) slot l = rw (slot-refusal-alike slot (omega arith), slots-alike left (slot + 1) (omega arith))
+  slots-alike zero slot low l = refl
+  slots-alike (suc left) slot low l = rw (slot-refusal-alike slot low (omega arith), slots-alike left (slot + 1) (omega arith) (omega arith))
 
   -- two slots
-  module _ (s k : ℕ) (ls : s ≤ slotCount g) (lk : k ≤ slotCount g) where
+  module _ (s k : ℕ) (low : 1 ≤ s) (ls : s ≤ slotCount g) (lowk : 1 ≤ k) (lk : k ≤ slotCount g) where
     labels-alike : (ask : List ℕ → List ℕ → Bool)
         → (isLabel g image s && isLabel g image k && ask (labelAt g image s) (labelAt g image k))
         ≡ (isLabel g image′ s && isLabel g image′ k && ask (labelAt g image′ s) (labelAt g image′ k))
@@ -91,9 +101,9 @@ module _ (g : Geometry) (image image′ : List ℕ) (numbers : Numbers g) (alike
         by-test (isLabel g image s)
         (λ (a : isLabel g image s ≡ true).
         by-test (isLabel g image k)
-        (λ (b : isLabel g image k ≡ true). rw (is-label-alike s ls, is-label-alike k lk, label-alike s ls a, label-alike k lk b))
-        (λ (b : isLabel g image k ≡ false). rw (a, sym (is-label-alike s ls) ∙ a, b, sym (is-label-alike k lk) ∙ b)))
-        (λ (a : isLabel g image s ≡ false). rw (a, sym (is-label-alike s ls) ∙ a))
+        (λ (b : isLabel g image k ≡ true). rw (is-label-alike s low ls, is-label-alike k lowk lk, label-alike s low ls a, label-alike k lowk lk b))
+        (λ (b : isLabel g image k ≡ false). rw (a, sym (is-label-alike s low ls) ∙ a, b, sym (is-label-alike k lowk lk) ∙ b)))
+        (λ (a : isLabel g image s ≡ false). rw (a, sym (is-label-alike s low ls) ∙ a))
 
     shares-alike : shares g image s k ≡ shares g image′ s k
     unfolding shares
@@ -107,15 +117,16 @@ module _ (g : Geometry) (image image′ : List ℕ) (numbers : Numbers g) (alike
 abbrev laterList : Geometry → List ℕ → List Checked
 laterList g image = refusal6 g image ∷ refusal7 (g .L) (ermapOf image) ∷ refusal8to10 g image ∷ refusal11 g image ∷ refusal12 g image ∷ []
 
-later-alike : (g : Geometry) (image image′ : List ℕ) → Numbers g → ((n : ℕ) → n < sectorCount g → SameOrFailed g image image′ n)
-    → ermapOf image ≡ ermapOf image′ → inOrder (laterList g image) ≡ inOrder (laterList g image′)
-later-alike g image image′ numbers alike e =
-    let share = shares-alike g image image′ numbers alike in
-    let name = namesake-alike g image image′ numbers alike in
+later-alike : (g : Geometry) (image image′ : List ℕ) → Numbers g → ((n : ℕ) → n < 7 → kindAt g image n ≡ kindAt g image′ n)
+    → ((n : ℕ) → 7 ≤ n → n < sectorCount g → SameOrFailed g image image′ n)
+    → ermapRules (g .L) (ermapOf image) ≡ ermapRules (g .L) (ermapOf image′) → inOrder (laterList g image) ≡ inOrder (laterList g image′)
+later-alike g image image′ numbers kinds alike e =
+    let share = shares-alike g image image′ numbers kinds alike in
+    let name = namesake-alike g image image′ numbers kinds alike in
     rw (
-      kinds-alike g image image′ numbers alike (sectorCount g) 0 (omega arith),
+      kinds-alike g image image′ numbers kinds alike (sectorCount g) 0 (omega arith),
       e,
-      slots-alike g image image′ numbers alike (slotCount g) 1 (omega arith),
+      slots-alike g image image′ numbers kinds alike (slotCount g) 1 (omega arith) (omega arith),
       clashes-same (shares g image) (shares g image′) (slotCount g) share 11 (slotCount g) 1 (omega arith) (omega arith),
       clashes-same (namesake g image) (namesake g image′) (slotCount g) name 12 (slotCount g) 1 (omega arith) (omega arith),
     )
@@ -155,20 +166,21 @@ module _ (image : List ℕ) (known : SectorsKnown image) where
       (λ (q : sectorCount g ≡ n). omega (arith, known-whole, last-sector g, ap (kindOffset g) q))
       (λ (m : sectorCount g < n). omega (arith, known-whole, last-sector g, sectors-apart g (sectorCount g) n m))
 
-module _ (image image′ : List ℕ) (e : EqualButFailed image image′) where
+module _ (loose : Loose) (u : NoneJudged loose) (image image′ : List ℕ) (e : EqualBut loose image image′) where
   -- ---- SECTORS 05 AND 07
-  kind-of : (sector : ℕ) → FrontAlike image image′ sector → indexKind image sector ≡ indexKind image′ sector
+  kind-of : (sector : ℕ) → FrontAlike loose image image′ sector → indexKind image sector ≡ indexKind image′ sector
   kind-of sector (inl s) = s .0
   kind-of sector (inr f) = f .0 ∙ sym (f .1)
 
-  body-of : (sector : ℕ) → FrontAlike image image′ sector → indexKind image sector ≡ 0 → indexBody image sector ≡ indexBody image′ sector
+  body-of : (sector : ℕ) → FrontAlike loose image image′ sector → indexKind image sector ≡ 0
+      → SameBut (loose .positions sector) (indexBody image sector) (indexBody image′ sector)
   body-of sector (inl s) z = s .1
   body-of sector (inr f) z = absurd (omega (arith, f .0, z))
 
-  front5 : FrontAlike image image′ 5
+  front5 : FrontAlike loose image image′ 5
   front5 = e .front 5 (omega arith) (omega arith)
 
-  front7 : FrontAlike image image′ 7
+  front7 : FrontAlike loose image image′ 7
   front7 = e .front 7 (omega arith) (omega arith)
 
   readable-alike : refusal2 image ≡ refusal2 image′
@@ -181,17 +193,33 @@ module _ (image image′ : List ℕ) (e : EqualButFailed image image′) where
     pub kind7 : indexKind image 7 ≡ 0
     kind7 = eqb-true (indexKind image 7) 0 (not-false _ (not-given (not (eqb (indexKind image 7) 0)) _ (order-each _ r .1 .0)))
 
-    pub ermap-alike : ermapOf image ≡ ermapOf image′
-    ermap-alike = body-of 5 front5 kind5
+    ermap-but : SameBut (loose .positions 5) (ermapOf image) (ermapOf image′)
+    ermap-but = body-of 5 front5 kind5
 
-    pub vol1-alike : vol1Of image ≡ vol1Of image′
-    vol1-alike = body-of 7 front7 kind7
+    vol1-but : SameBut (loose .positions 7) (vol1Of image) (vol1Of image′)
+    vol1-but = body-of 7 front7 kind7
+
+    pub name-alike : volumeName (vol1Of image) ≡ volumeName (vol1Of image′)
+    name-alike = volume-name-same (loose .positions 7) (u 7) (vol1Of image) (vol1Of image′) vol1-but
+
+    ermap-alike : (L : ℕ) → ermapRules L (ermapOf image) ≡ ermapRules L (ermapOf image′)
+    ermap-alike = ermap-rules-same (loose .positions 5) (u 5) (ermapOf image) (ermapOf image′) ermap-but
 
     numbers-alike : volumeOf image ≡ volumeOf image′
-    numbers-alike = rw (vol1-alike, ermap-alike)
+    numbers-alike =
+        vol1-numbers-same (loose .positions 7) (u 7) (vol1Of image) (vol1Of image′) vol1-but (ermapOf image)
+        ∙ ermap-numbers-same (loose .positions 5) (u 5) (ermapOf image) (ermapOf image′) ermap-but (vol1Of image′)
 
     layout-alike : inOrder (layoutList image) ≡ inOrder (layoutList image′)
-    layout-alike = rw (e .same-length, kind-of 5 front5, kind-of 7 front7, vol1-alike, ermap-alike)
+    layout-alike =
+        rw (
+          numbers-alike,
+          e .same-length,
+          kind-of 5 front5,
+          kind-of 7 front7,
+          vol1-rules-same (loose .positions 7) (u 7) (vol1Of image) (vol1Of image′) vol1-but,
+          access-same (loose .positions 7) (u 7) (vol1Of image) (vol1Of image′) vol1-but,
+        )
 
   -- ---- THE SECTORS, where they are known
   module _ (known : SectorsKnown image) where
@@ -199,20 +227,28 @@ module _ (image image′ : List ℕ) (e : EqualButFailed image image′) where
     readable = order-each _ known .1 .0
 
     -- behind the last sector there is nothing
-    pub all-alike : (n : ℕ) → SameOrFailed (volumeOf image) image image′ n
-    all-alike n =
+    pub all-alike : (n : ℕ) → 7 ≤ n → SameOrLoose loose (volumeOf image) image image′ n
+    all-alike n behind =
         let g = volumeOf image in
         either (lt-or-le n (sectorCount g))
-        (λ (l : n < sectorCount g). e .sectors known n l)
+        (λ (l : n < sectorCount g). e .sectors known n behind l)
         (λ (l : sectorCount g ≤ n).
         inl (sector-from-bytes g image image′ n (e .same-length)
         (λ i lo hi.
         List·getD-eq-default image 0 (omega (arith, behind-last image known n l))
         ∙ sym (List·getD-eq-default image′ 0 (omega (arith, behind-last image known n l, e .same-length))))))
 
+    front-kinds : (n : ℕ) → n < 7 → kindAt (volumeOf image) image n ≡ kindAt (volumeOf image) image′ n
+    front-kinds n l =
+        let g = volumeOf image in
+        let i : n + 1 - 1 < indexSectors g = omega (arith, index-sectors g (known-numbers image known)) in
+        let q : n + 1 - 1 ≡ n = omega arith in
+        subst (λ (k : ℕ). kindAt g image k ≡ kindAt g image′ k) q
+        (index-kind g image (n + 1) i ∙ kind-of (n + 1) (e .front (n + 1) (omega arith) (omega arith)) ∙ sym (index-kind g image′ (n + 1) i))
+
     later : inOrder (laterList (volumeOf image) image) ≡ inOrder (laterList (volumeOf image′) image′)
     later =
-        later-alike (volumeOf image) image image′ (known-numbers image known) (e .sectors known) (ermap-alike readable)
+        later-alike (volumeOf image) image image′ (known-numbers image known) front-kinds (λ n behind l. or-failed loose (volumeOf image) image image′ n (e .sectors known n behind l)) (ermap-alike readable (volumeOf image .L))
         ∙ ap (λ (g : Geometry). inOrder (laterList g image′)) (numbers-alike readable)
 
   -- THE JUDGEMENT
@@ -237,19 +273,19 @@ module _ (image image′ : List ℕ) (e : EqualButFailed image image′) where
           (rw (e .same-length)) r (sym readable-alike ∙ r)
 
 -- THE OTHER WAY ROUND
-pub equal-swap : (image image′ : List ℕ) → EqualButFailed image image′ → EqualButFailed image′ image
-equal-swap image image′ e =
+pub equal-swap : (loose : Loose) → NoneJudged loose → (image image′ : List ℕ) → EqualBut loose image image′ → EqualBut loose image′ image
+equal-swap loose u image image′ e =
     record {
       same-length = sym (e .same-length);
       front = λ sector l m. swap sector (e .front sector l m);
-      sectors = λ known n l.
-          let r : refusal2 image ≡ Passed = readable-alike image image′ e ∙ order-each _ known .1 .0 in
-          let q = numbers-alike image image′ e r in
-          subst (λ (g : Geometry). SameOrFailed g image′ image n) q
-          (swap-sector (volumeOf image) image image′ n
-          (e .sectors (layout-alike image image′ e r ∙ known) n (subst (λ (g : Geometry). n < sectorCount g) (sym q) l)));
+      sectors = λ known n behind l.
+          let r : refusal2 image ≡ Passed = readable-alike loose u image image′ e ∙ order-each _ known .1 .0 in
+          let q = numbers-alike loose u image image′ e r in
+          subst (λ (g : Geometry). SameOrLoose loose g image′ image n) q
+          (swap-sector loose (volumeOf image) image image′ n
+          (e .sectors (layout-alike loose u image image′ e r ∙ known) n behind (subst (λ (g : Geometry). n < sectorCount g) (sym q) l)));
     }
   where
-    swap : (sector : ℕ) → FrontAlike image image′ sector → FrontAlike image′ image sector
-    swap sector (inl s) = inl (sym (s .0), sym (s .1))
-    swap sector (inr f) = inr (f .1, f .0)
+    swap : (sector : ℕ) → FrontAlike loose image image′ sector → FrontAlike loose image′ image sector
+    swap sector (inl s) = inl (sym (s .0), record { same-length = sym (s .1 .same-length); same-at = λ i f. sym (s .1 .same-at i f) })
+    swap sector (inr f) = inr (f .1, f .0, f .2)
