@@ -31,7 +31,7 @@ use Rattle.standard.specs.declared.Counted.{Counted}
 use Rattle.standard.specs.declared.Counted.the-variants.{Uncounted, Count}
 use Rattle.promises.specs.Ground.Basics.{never}
 use Rattle.promises.specs.Refusals.Refusing.{Exactly}
-use Rattle.promises.specs.Refusals.VersionNamed.{HoldBelow80}
+use Rattle.promises.specs.Bounds.VersionNamed.{HoldBelow80}
 use Rattle.promises.specs.Volumes.VolumeNumbers.{Numbers, numbers-of, image-range}
 use Rattle.promises.specs.Volumes.Judging.{accepted as stages-of}
 use Rattle.promises.specs.Volumes.AcceptedLaws.{image-length}

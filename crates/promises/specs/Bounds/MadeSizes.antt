@@ -28,8 +28,8 @@ use Rattle.promises.specs.Ground.Basics.{never}
 use Rattle.promises.specs.Images.AddressLaws.{parts, rank-lt}
 use Rattle.promises.specs.Volumes.AcceptedLaws.{label-in-range}
 use Rattle.promises.specs.Volumes.VolumeNumbers.{numbers-of}
-use Rattle.promises.specs.Refusals.Refusing.{by-order, by-none, first-order}
-use Rattle.promises.specs.Bounds.Sizes.{Small, small-one, small-given, fault-below, slots-few, addresses-few, volume-small, labelled, thirteen-small, names-slot, find-low}
+use Rattle.promises.specs.Refusals.Refusing.{first-order}
+use Rattle.promises.specs.Bounds.Sizes.{Small, small-one, small-given, by-order, by-none, fault-below, slots-few, addresses-few, volume-small, labelled, thirteen-small, names-slot, find-low}
 use Rattle.promises.specs.Making.Deletions.{Deletable}
 use Rattle.promises.specs.Making.MadeExactly.{Creates, creates-exactly, create-refused, delete-first, deletes-exactly, volume-stops-create, volume-stops-delete}
 

@@ -8,7 +8,7 @@ use lib.ListN.{length}
 use lib.Dec.{leb, ltb, eqb}
 use native.Mathlib.Omega.{arith}
 use native.Mathlib.Nat.{mul-le-mul-right, mul-le-mul-left}
-use borrow.Author.Tests.{ltb-true, ltb-false, leb-true, lt-ltb, not-false}
+use borrow.Author.Tests.{ltb-true, leb-true, lt-ltb, not-false}
 use Rattle.standard.specs.Layout.{sectorCount, indexSectors, slotCount, slotOrdinal, kindOffset, bodyOffset, labelOffset, labelAt, vol1Of, ermapOf}
 use Rattle.standard.specs.Characters.{field, between, spaces}
 use Rattle.standard.specs.Rules.{Row, lowestFault}
@@ -18,7 +18,7 @@ use Rattle.standard.specs.Addresses.{addressCount, ordinal}
 use Rattle.standard.specs.Labels.{endOf, hdr1Rules, labelFault}
 use Rattle.standard.specs.Slots.{hasLabel, slotRefusal}
 use Rattle.standard.specs.Refusals.{refuse, refuseAt, given-when, inOrder}
-use Rattle.standard.specs.Judgement.{numbersIn, volumeOf, volumeList, refusal2, refusal3, refusal6, refusal7, refusal8to10, refusal11, refusal12, clashesFrom, shares, namesake, judged}
+use Rattle.standard.specs.Judgement.{numbersIn, volumeOf, volumeList, refusal1, refusal2, refusal3, refusal6, refusal7, refusal8to10, refusal11, refusal12, clashesFrom, shares, namesake, judged}
 use Rattle.standard.specs.Finding.{found}
 use Rattle.standard.specs.Free.{freeRecords, freeCount}
 use Rattle.standard.specs.Files.{extent, extentSize, isDefective, goodAmong, goodRecords, blockCount, refusal13, refusal17, countList, countOr, countRefusal, counted, openRefusal}
@@ -37,10 +37,10 @@ use Rattle.promises.specs.Images.AddressLaws.{Legal, rank-lt}
 use Rattle.promises.specs.Images.Tiling.{address-inside}
 use Rattle.promises.specs.Volumes.Judging.{order-each, not-given, rows-each, accepted}
 use Rattle.promises.specs.Volumes.AcceptedLaws.{has-slot, label-in-range}
-use Rattle.promises.specs.Volumes.VolumeNumbers.{Numbers, of-rules, numbers-of, ermap-right, slot-in-index}
+use Rattle.promises.specs.Volumes.VolumeNumbers.{Numbers, of-rules, vol1-right, numbers-of, ermap-right, slot-in-index}
 use Rattle.promises.specs.Extents.ExtentAddresses.{extent-legal}
 use Rattle.promises.specs.Extents.FullBlocks.{count-held, records-one}
-use Rattle.promises.specs.Refusals.Refusing.{by-order, by-none, first-order, volume-first, volume-stops, count-first}
+use Rattle.promises.specs.Refusals.Refusing.{first-order, volume-first, volume-stops, count-first}
 use Rattle.promises.specs.Volumes.FindingLaws.{find-named, find-none}
 use Rattle.promises.specs.Refusals.PlacesNamed.{given-exactly, place-6, place-17, slots-first, clashes-first}
 use Rattle.promises.specs.Extents.ExtentWhole.{extent-length}
@@ -151,6 +151,27 @@ small-one number place l h p = record { number-low = l; number-high = h; first-l
 pub small-given : (t : Bool) (q r : Refusal) → Small q → given-when t q ≡ Stopped r → Small r
 small-given t q r s h = subst Small (sym (given-exactly t q r .0 h .1)) s
 
+-- small, and of another number than VOL1's
+abbrev pub Other : Refusal → Type 0
+Other r = (r .number ≡ 3 → ⊥) × Small r
+
+other-one : (number place : ℕ) → (number ≡ 3 → ⊥) → 1 ≤ number → number ≤ 29 → place < 2 ^ 32 → Other (refuse number place)
+other-one number place ne l h p = (ne, small-one number place l h p)
+
+other-given : (t : Bool) (q r : Refusal) → Other q → given-when t q ≡ Stopped r → Other r
+other-given t q r s h = subst Other (sym (given-exactly t q r .0 h .1)) s
+
+-- the first of a list is given, or the rest decides
+pub by-order : {A : Type 0} (c : Checked) (rest : List Checked) (r : Refusal) → inOrder (c ∷ rest) ≡ Stopped r
+    → (c ≡ Stopped r → A) → (c ≡ Passed → inOrder rest ≡ Stopped r → A) → A
+unfolding inOrder
+by-order Passed rest r h stop on = on refl h
+by-order (Stopped q) rest r h stop on = stop h
+
+pub by-none : {A : Type 0} (r : Refusal) → inOrder [] ≡ Stopped r → A
+unfolding inOrder
+by-none r h = never (cc)
+
 -- a label's positions are below 129
 abbrev pub below : List Row → Bool
 below [] = true
@@ -176,68 +197,78 @@ unfolding labelFault hdr1Rules
 hdr1-position g h = fault-below (hdr1Rules g h) refl
 
 -- one slot
-slot-small : (g : Geometry) (image : List ℕ) (slot : ℕ) (r : Refusal) → slot ≤ 45 → slotRefusal g image slot ≡ Stopped r → Small r
+slot-other : (g : Geometry) (image : List ℕ) (slot : ℕ) (r : Refusal) → slot ≤ 45 → slotRefusal g image slot ≡ Stopped r → Other r
 unfolding slotRefusal
-slot-small g image slot r l h =
+slot-other g image slot r l h =
     let p = hdr1-position g (labelAt g image slot) in
     let ten : Small (refuseAt 10 slot (labelFault g (labelAt g image slot))) = record { number-low = omega arith; number-high = omega arith; first-low = omega arith; second-low = omega arith; third-none = refl } in
-    by-order _ _ r h (small-given _ _ r (small-one 8 slot (omega arith) (omega arith) (omega arith)))
-    (λ _ h9. by-order _ _ r h9 (small-given _ _ r (small-one 9 slot (omega arith) (omega arith) (omega arith)))
-    (λ _ h10. by-order _ _ r h10 (small-given _ _ r ten)
+    by-order _ _ r h (other-given _ _ r (other-one 8 slot (λ q. omega (arith, q)) (omega arith) (omega arith) (omega arith)))
+    (λ _ h9. by-order _ _ r h9 (other-given _ _ r (other-one 9 slot (λ q. omega (arith, q)) (omega arith) (omega arith) (omega arith)))
+    (λ _ h10. by-order _ _ r h10 (other-given _ _ r ((λ q. omega (arith, q)), ten))
     (λ _ none. by-none r none)))
+
+-- A REFUSAL OF THE VOLUME is VOL1's, behind 1 and 2, or of another number than 3
+pub data VolumeFault (image : List ℕ) (r : Refusal) : Type 0 where
+  of-vol1 : refusal1 image ≡ Passed → refusal2 image ≡ Passed → refusal3 (vol1Of image) ≡ Stopped r → VolumeFault image r
+  of-another : Other r → VolumeFault image r
 
 -- the volume: 6 to 12 are reached only where VOL1 has given the numbers
 module _ (image : List ℕ) where
   abbrev g : Geometry
   g = volumeOf image
 
-  vol1-passed : refusal3 (vol1Of image) ≡ Passed → Numbers g
-  vol1-passed h =
-      let v = vol1Of image in
-      let n = not-given (ltb 0 (lowestFault (vol1Rules v))) _ h in
-      of-rules image (omega (arith, ltb-false 0 (lowestFault (vol1Rules v)) n))
-
-  two-small : (r : Refusal) → refusal2 image ≡ Stopped r → Small r
-  two-small r h =
-      by-order _ _ r h (small-given _ _ r (small-one 2 5 (omega arith) (omega arith) (omega arith)))
-      (λ _ h7. by-order _ _ r h7 (small-given _ _ r (small-one 2 7 (omega arith) (omega arith) (omega arith)))
+  two-other : (r : Refusal) → refusal2 image ≡ Stopped r → Other r
+  two-other r h =
+      by-order _ _ r h (other-given _ _ r (other-one 2 5 (λ q. omega (arith, q)) (omega arith) (omega arith) (omega arith)))
+      (λ _ h7. by-order _ _ r h7 (other-given _ _ r (other-one 2 7 (λ q. omega (arith, q)) (omega arith) (omega arith) (omega arith)))
       (λ _ none. by-none r none))
 
-  kinds-small : Numbers g → (r : Refusal) → refusal6 g image ≡ Stopped r → Small r
-  kinds-small n r h =
+  kinds-other : Numbers g → (r : Refusal) → refusal6 g image ≡ Stopped r → Other r
+  kinds-other n r h =
       let f = place-6 g image r .0 h in
-      subst Small (sym (f .is-so .1)) (small-one 6 (f .place) (omega arith) (omega arith) (omega (arith, f .high, sectors-few g n)))
+      subst Other (sym (f .is-so .1)) (other-one 6 (f .place) (λ q. omega (arith, q)) (omega arith) (omega arith) (omega (arith, f .high, sectors-few g n)))
 
-  slots-small : Numbers g → (r : Refusal) → refusal8to10 g image ≡ Stopped r → Small r
-  slots-small n r h =
+  slots-other : Numbers g → (r : Refusal) → refusal8to10 g image ≡ Stopped r → Other r
+  slots-other n r h =
       let f = slots-first g image (slotCount g) 1 r .0 h in
-      slot-small g image (f .place) r (omega (arith, f .high, slots-few g n)) (f .is-so)
+      slot-other g image (f .place) r (omega (arith, f .high, slots-few g n)) (f .is-so)
 
-  clash-small : Numbers g → (clash : ℕ → ℕ → Bool) (number : ℕ) → 1 ≤ number → number ≤ 29 → (r : Refusal) → clashesFrom clash number (slotCount g) 1 ≡ Stopped r → Small r
-  clash-small n clash number l m r h =
+  clash-other : Numbers g → (clash : ℕ → ℕ → Bool) (number : ℕ) → 4 ≤ number → number ≤ 29 → (r : Refusal) → clashesFrom clash number (slotCount g) 1 ≡ Stopped r → Other r
+  clash-other n clash number l m r h =
       let f = clashes-first clash number (slotCount g) 1 r .0 h in
-      subst Small (sym (f .is-so .1)) (small-one number (f .place) l m (omega (arith, f .high, slots-few g n)))
+      subst Other (sym (f .is-so .1)) (other-one number (f .place) (λ q. omega (arith, q)) (omega arith) m (omega (arith, f .high, slots-few g n)))
 
-  late-small : Numbers g → (r : Refusal)
-      → inOrder (refusal6 g image ∷ refusal7 (g .L) (ermapOf image) ∷ refusal8to10 g image ∷ refusal11 g image ∷ refusal12 g image ∷ []) ≡ Stopped r → Small r
-  late-small n r h =
+  late-other : Numbers g → (r : Refusal)
+      → inOrder (refusal6 g image ∷ refusal7 (g .L) (ermapOf image) ∷ refusal8to10 g image ∷ refusal11 g image ∷ refusal12 g image ∷ []) ≡ Stopped r → Other r
+  late-other n r h =
       let p = ermap-position (g .L) (ermapOf image) in
-      by-order _ _ r h (kinds-small n r)
-      (λ _ h7. by-order _ _ r h7 (small-given _ _ r (small-one 7 _ (omega arith) (omega arith) (omega arith)))
-      (λ _ h8. by-order _ _ r h8 (slots-small n r)
-      (λ _ h11. by-order _ _ r h11 (clash-small n (shares g image) 11 (omega arith) (omega arith) r)
-      (λ _ h12. by-order _ _ r h12 (clash-small n (namesake g image) 12 (omega arith) (omega arith) r)
+      by-order _ _ r h (kinds-other n r)
+      (λ _ h7. by-order _ _ r h7 (other-given _ _ r (other-one 7 _ (λ q. omega (arith, q)) (omega arith) (omega arith) (omega arith)))
+      (λ _ h8. by-order _ _ r h8 (slots-other n r)
+      (λ _ h11. by-order _ _ r h11 (clash-other n (shares g image) 11 (omega arith) (omega arith) r)
+      (λ _ h12. by-order _ _ r h12 (clash-other n (namesake g image) 12 (omega arith) (omega arith) r)
       (λ _ none. by-none r none)))))
 
+  pub volume-fault : (r : Refusal) → judged image ≡ Refused r → VolumeFault image r
+  volume-fault r j =
+      by-order _ _ r (first-order (volumeList image g) r (volume-first image r .0 j))
+      (λ h. of-another (other-given _ _ r (other-one 1 0 (λ q. omega (arith, q)) (omega arith) (omega arith) (omega arith)) h))
+      (λ long h2. by-order _ _ r h2 (λ h. of-another (two-other r h))
+      (λ readable h3. by-order _ _ r h3 (λ here. of-vol1 long readable here)
+      (λ vol1 h4. by-order _ _ r h4
+      (λ h. of-another (other-given _ _ r (other-one 4 11 (λ q. omega (arith, q)) (omega arith) (omega arith) (omega arith)) h))
+      (λ _ h5. by-order _ _ r h5
+      (λ h. of-another (other-given _ _ r (other-one 5 0 (λ q. omega (arith, q)) (omega arith) (omega arith) (omega arith)) h))
+      (λ _ h6. of-another (late-other (of-rules image (vol1-right (vol1Of image) vol1)) r h6))))))
+
   pub volume-small : (r : Refusal) → judged image ≡ Refused r → Small r
-  volume-small r j =
-      let p = vol1-position (vol1Of image) in
-      by-order _ _ r (first-order (volumeList image g) r (volume-first image r .0 j)) (small-given _ _ r (small-one 1 0 (omega arith) (omega arith) (omega arith)))
-      (λ _ h2. by-order _ _ r h2 (two-small r)
-      (λ _ h3. by-order _ _ r h3 (small-given _ _ r (small-one 3 _ (omega arith) (omega arith) (omega arith)))
-      (λ vol1 h4. by-order _ _ r h4 (small-given _ _ r (small-one 4 11 (omega arith) (omega arith) (omega arith)))
-      (λ _ h5. by-order _ _ r h5 (small-given _ _ r (small-one 5 0 (omega arith) (omega arith) (omega arith)))
-      (λ _ h6. late-small (vol1-passed vol1) r h6)))))
+  volume-small r j = go (volume-fault r j)
+    where
+      go : VolumeFault image r → Small r
+      go (of-vol1 long readable here) =
+          let p = vol1-position (vol1Of image) in
+          small-given _ _ r (small-one 3 _ (omega arith) (omega arith) (omega arith)) here
+      go (of-another other) = other .1
 
 -- a file of an accepted volume: behind 13 the slot is one of the volume
 module _ (image : List ℕ) (g : Geometry) (j : judged image ≡ Volume g) (slot : ℕ) where

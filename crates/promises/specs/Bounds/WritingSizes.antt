@@ -19,10 +19,10 @@ use Rattle.standard.specs.declared.Judged.{Judged}
 use Rattle.standard.specs.declared.Judged.the-variants.{Refused, Volume}
 use Rattle.standard.specs.declared.Written.the-variants.{Unwritten, Blocks}
 use Rattle.promises.specs.Ground.Basics.{never, by-test}
-use Rattle.promises.specs.Refusals.Refusing.{by-order, by-none, first-order, volume-stops, write-first, accepted-write}
+use Rattle.promises.specs.Refusals.Refusing.{first-order, volume-stops, write-first, accepted-write}
 use Rattle.promises.specs.Refusals.PlacesNamed.{given-exactly, place-26}
 use Rattle.promises.specs.Writing.WritingPromises.{answers, counts}
-use Rattle.promises.specs.Bounds.Sizes.{Small, labelled, thirteen-small, names-slot, wrong-small, volume-small, count-few}
+use Rattle.promises.specs.Bounds.Sizes.{Small, by-order, by-none, labelled, thirteen-small, names-slot, wrong-small, volume-small, count-few}
 
 -- "A first place above 2^32-1 is given as 2^32-1."
 abbrev pub capped : Refusal → Refusal

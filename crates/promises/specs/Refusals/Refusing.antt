@@ -62,17 +62,6 @@ none-then (Stopped q ∷ earlier) later r h = never (let e = h .0 in cc)
 pub first-order : (list : List Checked) (r : Refusal) → First r list → inOrder list ≡ Stopped r
 first-order list r f = ap inOrder (f .stands) ∙ none-then (f .earlier) (f .later) r (f .none-earlier)
 
--- the first of a list is given, or the rest decides
-pub by-order : {A : Type 0} (c : Checked) (rest : List Checked) (r : Refusal) → inOrder (c ∷ rest) ≡ Stopped r
-    → (c ≡ Stopped r → A) → (c ≡ Passed → inOrder rest ≡ Stopped r → A) → A
-unfolding inOrder
-by-order Passed rest r h stop on = on refl h
-by-order (Stopped q) rest r h stop on = stop h
-
-pub by-none : {A : Type 0} (r : Refusal) → inOrder [] ≡ Stopped r → A
-unfolding inOrder
-by-none r h = never (cc)
-
 -- the volume
 verdict-stopped : (c : Checked) (g : Geometry) (r : Refusal) → verdict c g ≡ Refused r → c ≡ Stopped r
 verdict-stopped Passed g r h = never (cc)

@@ -7,16 +7,15 @@ use mathlib.Core.Bool.{Bool, true, false, not, _&&_}
 use mathlib.Core.Logic.{inl, inr}
 use mathlib.Core.List.{List, [], _∷_}
 use lib.ListN.{length, List·getD-eq-default}
-use lib.Dec.{ltb, eqb}
+use lib.Dec.{eqb}
 use native.Mathlib.Omega.{arith}
 use native.Mathlib.Nat.{eq-or-lt-of-le}
-use borrow.Author.Tests.{eqb-true, not-false, ltb-false}
+use borrow.Author.Tests.{eqb-true, not-false}
 use Rattle.standard.specs.Characters.{byte}
 use Rattle.standard.specs.Refusals.{given-when, inOrder, orElse}
 use Rattle.standard.specs.Layout.{sectorCount, indexSectors, imageLength, kindOffset, kindAt, validMark, indexKind, indexBody, vol1Of, ermapOf, slotCount, slotOrdinal, labelAt}
-use Rattle.standard.specs.Volume.{vol1Rules, volumeName}
+use Rattle.standard.specs.Volume.{volumeName}
 use Rattle.standard.specs.Defects.{ermapRules}
-use Rattle.standard.specs.Rules.{lowestFault}
 use Rattle.standard.specs.Slots.{isLabel, isDeleted, isUnreadable, slotRefusal, slotsFrom}
 use Rattle.standard.specs.Judgement.{volumeOf, legalKind, refusal1, refusal2, refusal6, refusal7, refusal8to10, refusal11, refusal12, kindsFrom, overlap, sameName, shares, namesake, volumeRefusal, verdict, judged}
 use Rattle.standard.specs.declared.Geometry.{Geometry}
@@ -29,7 +28,7 @@ use Rattle.promises.specs.Images.SectorLaws.{sector-from-bytes, kind-leg
 use Rattle.promises.specs.Images.Unjudged.{SameBut, vol1-rules-same, access-same, volume-name-same, vol1-numbers-same, ermap-rules-same, ermap-numbers-same}
 use Rattle.promises.specs.Images.Alike.{Loose, NoneJudged, SameOrFailed, SameOrLoose, or-failed, FrontAlike, layoutList, SectorsKnown, EqualBut, swap-sector, alike-valid, alike-failed, alike-legal-kind, alike-marked, valid-same}
 use Rattle.promises.specs.Volumes.Judging.{order-each, order-append, not-given, clashes-same}
-use Rattle.promises.specs.Volumes.VolumeNumbers.{Numbers, of-rules, index-sectors, slot-in-index}
+use Rattle.promises.specs.Volumes.VolumeNumbers.{Numbers, of-rules, vol1-right, index-sectors, slot-in-index}
 use Rattle.promises.specs.Volumes.IndexLaws.{same-label}
 
 -- ---- 6 TO 12, which look at sectors and slots: of images with the same numbers
@@ -149,10 +148,7 @@ in-two image = ap (λ (c : Checked). verdict c (volumeOf image)) (order-append (
 -- where the sectors are known the numbers are in range, and the sectors fill the image
 module _ (image : List ℕ) (known : SectorsKnown image) where
   pub known-numbers : Numbers (volumeOf image)
-  known-numbers =
-      let v = vol1Of image in
-      let n = not-given (ltb 0 (lowestFault (vol1Rules v))) _ (order-each _ known .1 .1 .0) in
-      of-rules image (omega (arith, ltb-false 0 (lowestFault (vol1Rules v)) n))
+  known-numbers = of-rules image (vol1-right (vol1Of image) (order-each _ known .1 .1 .0))
 
   pub known-whole : length image ≡ imageLength (volumeOf image)
   known-whole =

@@ -12,10 +12,11 @@ use borrow.Author.Tests.{ltb-false, leb-true, eqb-true, ltb-true}
 use Rattle.standard.specs.Layout.{sectorCount, indexSectors, imageLength, slotCount, slotOrdinal, labelOffset, vol1Of, ermapOf}
 use Rattle.standard.specs.Characters.{bytes, oneOf, at, isSpace, field, hexDigits, hex, spaces, digitValue}
 use Rattle.standard.specs.Volume.{hexBetween, vol1Rules, volumeK}
-use Rattle.standard.specs.Judgement.{numbersIn, volumeOf, judged}
+use Rattle.standard.specs.Judgement.{numbersIn, volumeOf, refusal3, judged}
 use Rattle.standard.specs.Defects.{ermapRule11, ermapRules, defect1, defect2, isCylinder, cylinderIn}
 use Rattle.standard.specs.Rules.{lowestFault}
 use Rattle.standard.specs.declared.Geometry.{Geometry}
+use Rattle.standard.specs.declared.Checked.the-variants.{Passed}
 use Rattle.standard.specs.declared.Judged.the-variants.{Volume}
 use Rattle.promises.specs.Ground.Basics.{true-not-false, and-l, and-r}
 use Rattle.promises.specs.Images.Tiling.{size-index, sector-in-image}
@@ -77,12 +78,14 @@ of-rules image z =
       size-high = omega (arith, pow-le-pow-right {n = 2} (omega arith) {j = 3} (kinds-few (at v 76) r76));
     }
 
+-- where 3 is not given VOL1 has no fault
+pub vol1-right : (v : List ℕ) → refusal3 v ≡ Passed → lowestFault (vol1Rules v) ≡ 0
+vol1-right v h = omega (arith, ltb-false 0 (lowestFault (vol1Rules v)) (not-given (ltb 0 (lowestFault (vol1Rules v))) _ h))
+
 pub numbers-of : (image : List ℕ) (g : Geometry) → judged image ≡ Volume g → Numbers g
 numbers-of image g j =
     let a = accepted image g j in
-    let n = not-given (ltb 0 (lowestFault (vol1Rules (vol1Of image)))) _ (a .vol1) in
-    let z : lowestFault (vol1Rules (vol1Of image)) ≡ 0 = omega (arith, ltb-false 0 (lowestFault (vol1Rules (vol1Of image))) n) in
-    subst Numbers (a .numbers) (of-rules image z)
+    subst Numbers (a .numbers) (of-rules image (vol1-right (vol1Of image) (a .vol1)))
 
 -- the second defective cylinder is behind the first
 second-behind : (L : ℕ) (e : List ℕ) → ermapRule11 L e ≡ true → 0 < defect2 e → defect1 e < defect2 e

@@ -8,14 +8,13 @@ use mathlib.Core.List.{List, [], _∷_}
 use lib.ListN.{take, drop}
 use lib.Dec.{eqb, ltb}
 use native.Mathlib.Omega.{arith}
-use borrow.Author.Tests.{eqb-true, ne-eqb, ltb-true, lt-ltb, ltb-false}
+use borrow.Author.Tests.{eqb-true, ne-eqb, ltb-true, lt-ltb}
 use Rattle.standard.specs.Characters.{bytes, byte, oneOf, at}
-use Rattle.standard.specs.Refusals.{refuse, given-when, inOrder}
+use Rattle.standard.specs.Refusals.{refuse}
 use Rattle.standard.specs.Rules.{Row, lowestFault}
-use Rattle.standard.specs.Layout.{vol1Of, ermapOf, slotCount}
+use Rattle.standard.specs.Layout.{vol1Of}
 use Rattle.standard.specs.Volume.{vol1Rules}
-use Rattle.standard.specs.Judgement.{volumeOf, volumeList, judged, refusal1, refusal2, refusal3, refusal6, refusal7, refusal8to10, refusal11, refusal12, clashesFrom, shares, namesake}
-use Rattle.standard.specs.Slots.{slotRefusal}
+use Rattle.standard.specs.Judgement.{volumeOf, volumeList, judged, refusal1, refusal2, refusal3}
 use Rattle.standard.specs.declared.Geometry.{Geometry}
 use Rattle.standard.specs.declared.Refusal.{Refusal}
 use Rattle.standard.specs.declared.Checked.{Checked}
@@ -23,56 +22,20 @@ use Rattle.standard.specs.declared.Checked.the-variants.{Passed, Stopped}
 use Rattle.standard.specs.declared.Judged.the-variants.{Refused, Volume}
 use Rattle.promises.specs.Ground.Basics.{by-test, true-not-false, or-rest}
 use Rattle.promises.specs.Ground.Lists.{Every}
-use Rattle.promises.specs.Volumes.Judging.{accepted, not-given, rows-each}
-use Rattle.promises.specs.Refusals.Refusing.{Exactly, by-order, by-none, first-order, volume-first}
-use Rattle.promises.specs.Refusals.PlacesNamed.{given-exactly, held-named, place-6, slots-first, clashes-first}
+use Rattle.promises.specs.Volumes.Judging.{accepted, rows-each}
+use Rattle.promises.specs.Volumes.VolumeNumbers.{vol1-right}
+use Rattle.promises.specs.Refusals.Refusing.{Exactly, volume-first}
+use Rattle.promises.specs.Refusals.PlacesNamed.{given-exactly, held-named}
+use Rattle.promises.specs.Bounds.Sizes.{VolumeFault, of-vol1, of-another, volume-fault}
 
--- ---- 3 IS VOL1'S: no other refusal of the volume has that number
-given-other : {A : Type 0} (t : Bool) (q r : Refusal) → (q .number ≡ 3 → ⊥) → r .number ≡ 3 → given-when t q ≡ Stopped r → A
-given-other t q r ne three h = absurd (ne (sym (ap (λ (x : Refusal). x .number) (given-exactly t q r .0 h .1)) ∙ three))
-
-slot-other : {A : Type 0} (g : Geometry) (image : List ℕ) (slot : ℕ) (r : Refusal) → r .number ≡ 3 → slotRefusal g image slot ≡ Stopped r → A
-unfolding slotRefusal
-slot-other g image slot r three h =
-    by-order _ _ r h (given-other _ _ r (λ q. omega (arith, q)) three)
-    (λ _ h9. by-order _ _ r h9 (given-other _ _ r (λ q. omega (arith, q)) three)
-    (λ _ h10. by-order _ _ r h10 (given-other _ _ r (λ q. omega (arith, q)) three)
-    (λ _ none. by-none r none)))
-
-module _ (image : List ℕ) (r : Refusal) (three : r .number ≡ 3) where
-  abbrev g : Geometry
-  g = volumeOf image
-
-  two-other : {A : Type 0} → refusal2 image ≡ Stopped r → A
-  two-other h =
-      by-order _ _ r h (given-other _ _ r (λ q. omega (arith, q)) three)
-      (λ _ h7. by-order _ _ r h7 (given-other _ _ r (λ q. omega (arith, q)) three)
-      (λ _ none. by-none r none))
-
-  named-other : {A : Type 0} (n p : ℕ) → (n ≡ 3 → ⊥) → r ≡ refuse n p → A
-  named-other n p ne e = absurd (ne (sym (ap (λ (x : Refusal). x .number) e) ∙ three))
-
-  clash-other : {A : Type 0} (clash : ℕ → ℕ → Bool) (number : ℕ) → (number ≡ 3 → ⊥) → clashesFrom clash number (slotCount g) 1 ≡ Stopped r → A
-  clash-other clash number ne h = let f = clashes-first clash number (slotCount g) 1 r .0 h in named-other number (f .place) ne (f .is-so .1)
-
-  late-other : {A : Type 0} → inOrder (refusal6 g image ∷ refusal7 (g .L) (ermapOf image) ∷ refusal8to10 g image ∷ refusal11 g image ∷ refusal12 g image ∷ []) ≡ Stopped r → A
-  late-other h =
-      by-order _ _ r h (λ h6. let f = place-6 g image r .0 h6 in named-other 6 (f .place) (λ q. omega (arith, q)) (f .is-so .1))
-      (λ _ h7. by-order _ _ r h7 (given-other _ _ r (λ q. omega (arith, q)) three)
-      (λ _ h8. by-order _ _ r h8 (λ s. let f = slots-first g image (slotCount g) 1 r .0 s in slot-other g image (f .place) r three (f .is-so))
-      (λ _ h11. by-order _ _ r h11 (clash-other (shares g image) 11 (λ q. omega (arith, q)))
-      (λ _ h12. by-order _ _ r h12 (clash-other (namesake g image) 12 (λ q. omega (arith, q)))
-      (λ _ none. by-none r none)))))
-
-  -- behind 1 and 2
-  pub three-of-vol1 : judged image ≡ Refused r → (refusal1 image ≡ Passed) × (refusal2 image ≡ Passed) × (refusal3 (vol1Of image) ≡ Stopped r)
-  three-of-vol1 j =
-      by-order _ _ r (first-order (volumeList image g) r (volume-first image r .0 j)) (given-other _ _ r (λ q. omega (arith, q)) three)
-      (λ long h2. by-order _ _ r h2 two-other
-      (λ readable h3. by-order _ _ r h3 (λ here. (long, readable, here))
-      (λ _ h4. by-order _ _ r h4 (given-other _ _ r (λ q. omega (arith, q)) three)
-      (λ _ h5. by-order _ _ r h5 (given-other _ _ r (λ q. omega (arith, q)) three)
-      (λ _ h6. late-other h6)))))
+-- ---- 3 IS VOL1'S, behind 1 and 2: no other refusal of the volume has that number
+three-of-vol1 : (image : List ℕ) (r : Refusal) → r .number ≡ 3 → judged image ≡ Refused r
+    → (refusal1 image ≡ Passed) × (refusal2 image ≡ Passed) × (refusal3 (vol1Of image) ≡ Stopped r)
+three-of-vol1 image r three j = go (volume-fault image r j)
+  where
+    go : VolumeFault image r → (refusal1 image ≡ Passed) × (refusal2 image ≡ Passed) × (refusal3 (vol1Of image) ≡ Stopped r)
+    go (of-vol1 long readable here) = (long, readable, here)
+    go (of-another other) = absurd (other .0 three)
 
 -- ---- WHICH POSITIONS
 vol1-names : (v : List ℕ) → oneOf (0 ∷ 1 ∷ 5 ∷ 11 ∷ 38 ∷ 72 ∷ 76 ∷ 77 ∷ 80 ∷ 81 ∷ 83 ∷ 85 ∷ 89 ∷ []) (lowestFault (vol1Rules v)) ≡ true
@@ -106,9 +69,7 @@ pub version-is : (image : List ℕ) (g : Geometry) → judged image ≡ Volume g
 unfolding vol1Rules
 version-is image g j =
     let v = vol1Of image in
-    let n = not-given (ltb 0 (lowestFault (vol1Rules v))) _ (accepted image g j .vol1) in
-    let z : lowestFault (vol1Rules v) ≡ 0 = omega (arith, ltb-false 0 (lowestFault (vol1Rules v)) n) in
-    let (r1, (r5, (r11, (r38, (r72, (r76, (r77, (r80, _)))))))) = rows-each (vol1Rules v) z refl in
+    let (r1, (r5, (r11, (r38, (r72, (r76, (r77, (r80, _)))))))) = rows-each (vol1Rules v) (vol1-right v (accepted image g j .vol1)) refl in
     only-one (at v 80) 51 r80
 
 -- a row of another position than the fault's holds, and the fault is behind it
