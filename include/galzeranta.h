@@ -223,6 +223,18 @@ static inline unsigned int galz_slots(galz_u64 answer) { return galz_index_secto
 static inline galz_u64 galz_slot_offset(galz_u64 slot) { return (slot + 6) * 129 + 1; }
 
 /*
+ * galz_judge too: the physical cylinder on which a data cylinder c stands; 0 for a c that is not 1 to galz_cylinders, and where the volume is refused. These are
+ * the two comparisons of the rules, over the defective cylinders d1 and d2: "q is c, or c+1 if d1 is present and d1 <= c; the physical cylinder is q, or q+1 if
+ * d2 is present and d2 <= q." galz_skip is one of them.
+ */
+static inline galz_u64 galz_skip(unsigned int d, galz_u64 c) { return d != 0 && d <= c ? c + 1 : c; }
+static inline unsigned int galz_physical(galz_u64 answer, galz_u64 c)
+{
+	const galz_u64 q = galz_skip(galz_defect_1(answer), c);
+	return galz_done(answer) && c >= 1 && c <= galz_cylinders(answer) ? (unsigned int)galz_skip(galz_defect_2(answer), q) : 0;
+}
+
+/*
  * galz_find and galz_create, done. Bits 24-55 the slot, from 1. Bits 0-23, of galz_find: where the label begins in the image, in bytes from 0; of galz_create:
  * the start of the extent as the number of its five digits, cylinder*1000 + side*100 + sector. The end stands in the label, positions 35-39.
  */

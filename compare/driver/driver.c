@@ -9,7 +9,7 @@
  * behind one; 64 if the parts that the header's functions give do not make the number again); then each string that has changed, as it is now.
  *
  * Each call runs on a stack of its own, painted before the first. With an argument the driver writes at its end, on standard error, how many bytes of it each
- * call has used, those of the function here that makes the call included: its name and the number. With a second one the stacks are entered 8 bytes lower
+ * export has used, those of the function here that makes the call included: its name and the number. With a second one the stacks are entered 8 bytes lower
  * than System V has it, as in a kernel that aligns its stack to 8.
  *
  * It includes no header but the library's own, so that a compiler without a C library's headers builds it.
@@ -24,7 +24,7 @@ void *malloc(unsigned long size);
 void free(void *room);
 void *memset(void *room, int byte, unsigned long count);
 
-enum { STRINGS = 3, NUMBERS = 4, AROUND = 64, FILL = 0xA5, PARTS = 64, FAR = 128, CALLS = 9, STACK = 16384 };
+enum { STRINGS = 3, NUMBERS = 4, AROUND = 64, FILL = 0xA5, PARTS = 64, FAR = 128, EXPORTS = 9, CALLS = 10, STACK = 16384 };
 
 /* a lent string: room with filled bytes around it, and a copy */
 struct lent {
@@ -46,6 +46,8 @@ static u64 call_write(struct lent *s, u64 *n)
 
 static u64 call_create(struct lent *s, u64 *n) { return galz_create(s[0].bytes, s[0].length, s[1].bytes, s[1].length, n[0]); }
 static u64 call_delete(struct lent *s, u64 *n) { return galz_delete(s[0].bytes, s[0].length, n[0]); }
+/* no export, but a function of the header over the judgement's number */
+static u64 call_physical(struct lent *s, u64 *n) { return galz_physical(galz_judge(s[0].bytes, s[0].length), n[0]); }
 
 /* the number again, from the parts that the header's functions give */
 static u64 refusal_again(u64 a) { return (u64)galz_code(a) << 56 | galz_first(a) << 24 | galz_second(a) << 4 | galz_third(a); }
@@ -66,7 +68,7 @@ static u64 gap_again(u64 a) { return 128ULL << 56 | next_again(a); }
 static u64 end_again(u64 a) { return 129ULL << 56 | next_again(a); }
 static u64 reading_again(u64 a) { return galz_is_gap(a) ? gap_again(a) : galz_is_end(a) ? end_again(a) : record_again(a); }
 
-/* the calls by their numbers, which src/drive.rs knows too */
+/* the calls by their numbers, which src/drive.rs knows too; the exports are the first */
 static const struct {
 	const char *name;
 	u64 (*call)(struct lent *, u64 *);
@@ -79,7 +81,8 @@ static const struct {
 		   { "galz_salvage", call_salvage, reading_again },
 		   { "galz_write", call_write, number_again },
 		   { "galz_create", call_create, placed_again },
-		   { "galz_delete", call_delete, number_again } };
+		   { "galz_delete", call_delete, number_again },
+		   { "galz_physical", call_physical, number_again } };
 
 static u8 stacks[CALLS][STACK] __attribute__((aligned(16)));
 static u64 lower;
@@ -252,7 +255,7 @@ int main(int words, char **word)
 	memset(stacks, FILL, sizeof stacks);
 	while ((served = serve(turn++)) == 1)
 		;
-	for (int call = 0; words > 1 && call < CALLS; call++)
+	for (int call = 0; words > 1 && call < EXPORTS; call++)
 		tell_depth(call);
 	return served == 0 ? 0 : 1;
 }

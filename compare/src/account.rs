@@ -1,6 +1,6 @@
 //! What a write leaves, worked out a second time from document 01's words,
 //! without `writing` and `layout`'s ordinals: address by address through the
-//! image, with the case maker's own packing.
+//! image, by the walk over its cylinders, with the case maker's own packing.
 
 use crate::layout::Geometry;
 use crate::make::pack::{pack, Packed, Shape};
@@ -8,6 +8,7 @@ use crate::model::Call;
 use crate::packed::refusal_of;
 use crate::refusal::Refusal;
 use crate::volume::judge;
+use crate::walked::{addresses, Address};
 
 /// A list of records that a file is to hold.
 #[derive(Clone, Copy, Debug)]
@@ -47,32 +48,6 @@ impl<'a> List<'a> {
         let sum: u128 = self.lengths.iter().map(|&length| u128::from(length)).sum();
         sum == self.bodies.len() as u128
     }
-}
-
-/// A data address: cylinder, side, sector.
-pub type Address = (usize, usize, usize);
-
-/// The data addresses in their order, each with where its kind stands.
-pub fn addresses(geometry: &Geometry) -> Vec<(Address, usize)> {
-    let mut found = Vec::new();
-    // "Sectors in order: physical cylinder 0 to L+3, side 0 then 1, sector 01
-    // upward. Each is one byte of kind, then a body." "These are physical
-    // numbers, and data skip them"
-    let mut at = geometry.s * geometry.i * 129;
-    let mut cylinder = 0;
-    for physical in 1..=geometry.l + 3 {
-        let skipped = [geometry.d1, geometry.d2].contains(&Some(physical));
-        cylinder += usize::from(!skipped);
-        for side in 0..geometry.s {
-            for sector in 1..=geometry.d {
-                if !skipped && cylinder <= geometry.l {
-                    found.push(((cylinder, side, sector), at));
-                }
-                at += 1 + (128 << geometry.k);
-            }
-        }
-    }
-    found
 }
 
 pub fn digits(address: Address) -> Vec<u8> {

@@ -8,6 +8,7 @@ use crate::make::file::FilePlan;
 use crate::make::positions::{judged_in, named_by_10, ERMAP, VOL1};
 use crate::make::{cases, placings, Case};
 use crate::met;
+use crate::met_cylinders;
 use crate::met_slots::{self, KEPT, NUMBERS, POSITIONS, REFUSED};
 use crate::model::{answer, Answer, Call};
 use crate::packed::{code, refusal_of, END, GAP};
@@ -147,7 +148,7 @@ impl Cover {
         tables.extend(shapes.filter(|shape| [SIZES, FORMATS, BLOCKS].contains(&shape.0)));
         let written = met::TABLES.iter();
         let placed = met_slots::TABLES.iter();
-        let deep = written.chain(placed);
+        let deep = written.chain(placed).chain(&met_cylinders::TABLES);
         tables.extend(deep.map(|(title, rows)| table(title, rows.iter().copied())));
         tables.push(table(met_slots::VOLUMES_FIRST, met_slots::volumes_first()));
         Cover::of(tables)
@@ -226,6 +227,14 @@ impl Cover {
     pub fn count_placing(&mut self, case: &Case, packed: u64) {
         self.reach(OF_CREATING, case.family);
         for (title, row) in met_slots::facts(&case.image, &case.call, packed) {
+            self.reach(title, &row);
+        }
+    }
+
+    /// Counts a case of the skip of defective cylinders, and the number that it
+    /// returned.
+    pub fn count_cylinders(&mut self, case: &Case, packed: u64) {
+        for (title, row) in met_cylinders::facts(case, packed) {
             self.reach(title, &row);
         }
     }

@@ -1,7 +1,7 @@
 //! The library behind a C driver, asked over a pipe: `driver/driver.c` says
 //! the form of requests and answers.
 
-use crate::model::{answer, Call};
+use crate::model::{answer, Answer, Call};
 use std::io::{self, BufReader, Read, Write};
 use std::process::{Child, ChildStdin, ChildStdout, Command, Stdio};
 
@@ -54,6 +54,7 @@ fn request(image: &[u8], call: &Call) -> Option<Request> {
         },
         Call::Create { fields, n } => (7, [*n, 0, 0, 0], fields.clone(), Vec::new()),
         Call::Delete { slot } => (8, [*slot, 0, 0, 0], Vec::new(), Vec::new()),
+        Call::Physical { cylinder } => (9, [*cylinder, 0, 0, 0], Vec::new(), Vec::new()),
         Call::Listing => return None,
     };
     Some(Request {
@@ -84,8 +85,12 @@ pub fn knows(call: &Call) -> bool {
 
 /// What the independent program says of a call that the driver knows.
 pub fn expected(image: &[u8], call: &Call) -> Option<Outcome> {
+    outcome_of(image, call, answer(image, call))
+}
+
+/// What the library has to do of such a call for an answer to be its own.
+pub fn outcome_of(image: &[u8], call: &Call, said: Answer) -> Option<Outcome> {
     let [_, second, third] = request(image, call)?.lent;
-    let said = answer(image, call);
     let second = match call {
         Call::Read { .. } | Call::Salvage { .. } => said.out,
         _ => second,
@@ -213,6 +218,7 @@ impl Request {
                 n: slot,
             },
             8 => Call::Delete { slot },
+            9 => Call::Physical { cylinder: slot },
             _ => return Err(io::Error::other("no such call")),
         })
     }
@@ -230,16 +236,11 @@ impl Request {
     }
 }
 
-/// Answers requests as a driver does, from the independent program, till the
-/// input ends. Every answer whose turn `wrong` divides is wrong, in turn in
-/// the number, in lent bytes, in a byte that was not lent and in the header.
-/// It serves the tests of the comparison itself.
-pub fn serve(input: &mut impl Read, output: &mut impl Write, wrong: usize) -> io::Result<()> {
-    serve_by(input, output, wrong, expected)
-}
-
-/// The same with any other program in the place of the library: what it says
-/// of a call, lent bytes included.
+/// Answers requests as a driver does till the input ends, with any program in
+/// the place of the library: what it says of a call, lent bytes included. Every
+/// answer whose turn `wrong` divides is wrong, in turn in the number, in lent
+/// bytes, in a byte that was not lent and in the header. It serves the tests of
+/// the comparison itself.
 pub fn serve_by(
     input: &mut impl Read,
     output: &mut impl Write,

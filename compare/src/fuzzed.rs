@@ -4,7 +4,7 @@
 
 use crate::drive::{knows, Outcome};
 use crate::layout::{Geometry, INDEX_SECTOR};
-use crate::make::calls::write_call;
+use crate::make::calls::{reading_of, write_call};
 use crate::make::sample::named;
 use crate::make::{cases, Case, FAMILIES};
 use crate::model::Call;
@@ -20,7 +20,7 @@ const LARGEST: usize = 6_000;
 /// Each family of the maker comes twenty times.
 const DRAWN: usize = 20 * FAMILIES.len();
 
-const SAMPLES: [&str; 12] = [
+const SAMPLES: [&str; 14] = [
     "smallest",
     "demo",
     "two-sided",
@@ -33,6 +33,8 @@ const SAMPLES: [&str; 12] = [
     "F-10-defect",
     "write-V-10",
     "write-S-10",
+    "defects-5-2-3",
+    "defects-5-5-6",
 ];
 
 const MOST_CHANGES: u8 = 12;
@@ -177,13 +179,8 @@ impl Run<'_> {
     fn reading(&mut self, place: Place, salvaging: bool) -> Call {
         let slot = self.input.number();
         let out = telling(self.input.number().min(MOST_BYTES));
-        let (block, offset, mark) = (place.block, place.offset, u64::from(place.mark));
-        #[rustfmt::skip]
-        let call = match salvaging {
-            false => Call::Read { slot, block, offset, mark, out },
-            true => Call::Salvage { slot, block, offset, mark, out },
-        };
-        call
+        let numbers = [place.block, place.offset, u64::from(place.mark)];
+        reading_of(slot, numbers, salvaging, out)
     }
 
     /// Positions of the label in a slot with a change, or of a length below a
@@ -244,7 +241,7 @@ impl Run<'_> {
     }
 
     fn call(&mut self) -> Call {
-        match self.input.byte() % 12 {
+        match self.input.byte() % 13 {
             0 => self.own.clone(),
             1 => Call::Judge,
             2 => Call::Free,
@@ -258,7 +255,10 @@ impl Run<'_> {
             }
             turn @ 7..=9 => self.reading(self.next, turn > 7),
             10 => self.list(),
-            _ => self.placing(),
+            11 => self.placing(),
+            _ => Call::Physical {
+                cylinder: self.input.number(),
+            },
         }
     }
 

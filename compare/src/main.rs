@@ -1,14 +1,15 @@
 //! The command line.
 
 use compare::cover::cover;
-use compare::drive::serve;
+use compare::drive::{expected, serve_by, Outcome};
 use compare::listing::{listing, MOST_BYTES};
 use compare::make::case;
-use compare::make::sample::{named, NAMES};
+use compare::make::sample::{named, NAMES, OTHER_NAMES};
 use compare::make::sizes::to_write;
 use compare::options::{Options, SEED};
 use compare::properties::check;
 use compare::reading::{given, places};
+use compare::{skips, Call};
 use std::io::{Read, Write};
 use std::process::ExitCode;
 
@@ -27,6 +28,7 @@ compare given salvage                   the same of salvage
 compare bodies NAME                     writes the records that fill the file of a sample as write-F-100, joined
 compare lengths NAME                    writes the length of each of them, one to a line
 compare serve [--wrong N]               answers calls as the C driver does, every Nth wrongly
+compare serve --skip NAME               the same with a wrong skip of defective cylinders, as d2-with-c
 compare --help                          shows this text
 ";
 
@@ -47,6 +49,7 @@ fn main() -> ExitCode {
         ["lengths", name] => list(name, lengths),
         ["serve"] => serve_calls("0"),
         ["serve", "--wrong", every] => serve_calls(every),
+        ["serve", "--skip", name] => serve_skip(name),
         ["--help" | "-h" | "help"] => print(HELP.as_bytes()),
         _ => misused(),
     }
@@ -77,7 +80,8 @@ fn sample(name: &str) -> ExitCode {
     match named(name) {
         Some(image) => print(&image),
         None => {
-            eprintln!("samples: {}", NAMES.join(", "));
+            let names = NAMES.join(", ");
+            eprintln!("samples: {names}; and such as {}", OTHER_NAMES.join(", "));
             ExitCode::from(2)
         }
     }
@@ -131,11 +135,26 @@ fn lengths(records: &[Vec<u8>]) -> Vec<u8> {
 }
 
 fn serve_calls(every: &str) -> ExitCode {
-    let Ok(every) = every.parse() else {
-        return misused();
-    };
+    match every.parse() {
+        Ok(every) => serve_said(every, expected),
+        Err(_) => misused(),
+    }
+}
+
+fn serve_skip(name: &str) -> ExitCode {
+    match skips::named(name) {
+        Some(skip) => serve_said(0, |image, call| skips::said(skip, image, call)),
+        None => {
+            let names = skips::WRONG.map(|wrong| wrong.0);
+            eprintln!("wrong skips: {}", names.join(", "));
+            ExitCode::from(2)
+        }
+    }
+}
+
+fn serve_said(every: usize, said: impl FnMut(&[u8], &Call) -> Option<Outcome>) -> ExitCode {
     let mut output = std::io::stdout().lock();
-    match serve(&mut std::io::stdin().lock(), &mut output, every) {
+    match serve_by(&mut std::io::stdin().lock(), &mut output, every, said) {
         Ok(()) => ExitCode::SUCCESS,
         Err(_) => ExitCode::FAILURE,
     }

@@ -1,10 +1,11 @@
 //! What a call of writing has met, for the tables of what was reached: told
 //! from the image before it and its answer, by the account of `account`.
 
-use crate::account::{Address, Ground, List};
+use crate::account::{Ground, List};
 use crate::file::count;
 use crate::packed::{code, refusal_of};
 use crate::volume::judge;
+use crate::walked::Address;
 
 pub const REFUSED: &str = "refusals of writing";
 pub const PLACES: &str = "places of refused writes";

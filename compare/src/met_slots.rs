@@ -1,13 +1,14 @@
 //! What a create or a delete has met, for the tables of what was reached: told
 //! from the image before it and its answer, by the account of `slots`.
 
-use crate::account::{Address, Ground};
+use crate::account::Ground;
 use crate::met::{named, Fact};
 use crate::model::Call;
 use crate::packed::{code, placed_of, refusal_of};
 use crate::refusal::Refusal;
 use crate::slots::{fault, known, Held};
 use crate::text::in_a_set;
+use crate::walked::Address;
 
 pub const REFUSED: &str = "refusals of creating";
 pub const KEPT: &str = "refusals of deleting";

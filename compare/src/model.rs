@@ -39,6 +39,11 @@ pub enum Call {
     Delete {
         slot: u64,
     },
+    /// The physical cylinder of a data cylinder, by the number that the
+    /// judgement returns.
+    Physical {
+        cylinder: u64,
+    },
     Listing,
 }
 
@@ -55,6 +60,7 @@ impl Call {
             Call::Write { .. } => "write",
             Call::Create { .. } => "create",
             Call::Delete { .. } => "delete",
+            Call::Physical { .. } => "physical",
             Call::Listing => "listing",
         }
     }
@@ -118,6 +124,9 @@ pub fn answer(image: &[u8], call: &Call) -> Answer {
         },
         Call::Create { fields, n } => packed::placed(&creating::create(&mut after, fields, *n)),
         Call::Delete { slot } => packed::number(&creating::delete(&mut after, *slot)),
+        Call::Physical { cylinder } => {
+            packed::physical(packed::judged(&volume::judge(image)), *cylinder)
+        }
         Call::Listing => 0,
     };
     Answer {

@@ -134,6 +134,18 @@ pub fn geometry_of(packed: u64) -> Option<Geometry> {
     })
 }
 
+/// The physical cylinder of a data cylinder, from the number that a judgement
+/// gave: 0 "for a cylinder outside 1..L", and where the volume is refused.
+pub fn physical(judged: u64, cylinder: u64) -> u64 {
+    let Some(geometry) = geometry_of(judged) else {
+        return 0;
+    };
+    match usize::try_from(cylinder) {
+        Ok(c) if (1..=geometry.l).contains(&c) => geometry.physical_cylinder(c) as u64,
+        _ => 0,
+    }
+}
+
 /// A packed number in words, for messages; `reads` for reading and salvage.
 pub fn in_words(packed: u64, reads: bool) -> String {
     if let Some(refused) = refusal_of(packed) {

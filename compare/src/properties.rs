@@ -13,17 +13,18 @@ use crate::make::rng::Rng;
 use crate::make::volume_cases::Made;
 use crate::make::{case, placing, write_cases, Case};
 use crate::model::{answer, Answer, Call};
-use crate::packed::{code, refusal_of};
+use crate::packed::{self, code, refusal_of};
 use crate::reading::{read, salvage, Place, Reading};
 use crate::refusal::Refusal;
 use crate::slots::{self, Held};
 use crate::text::address;
 use crate::volume::{judge, label_in, ERMAP_ORDINAL, LEAST_IMAGE, VOL1_ORDINAL};
+use crate::walked;
 
 type Property = (&'static str, fn(u64, usize, usize) -> Result<(), String>);
 
 /// Every property with its name.
-pub const PROPERTIES: [Property; 14] = [
+pub const PROPERTIES: [Property; 15] = [
     ("lent bytes stay", lent_bytes),
     ("what is not judged decides nothing", unjudged),
     ("read-back", read_back),
@@ -38,6 +39,7 @@ pub const PROPERTIES: [Property; 14] = [
     ("creates and deletes leave all other files", others_stay),
     ("room freed by a delete is used again", used_again),
     ("a create minds no data", data_unminded),
+    ("physical cylinders are the walk's", walk),
 ];
 
 /// Checks all properties on numbered cases; the counts per property, or the
@@ -617,4 +619,31 @@ fn data_unminded(seed: u64, index: usize, largest: usize) -> Result<(), String> 
     ensure(two.image[index..] == other[index..], || {
         "data changed".to_string()
     })
+}
+
+/// "What it answers stays the same for every cylinder and pair of defects": of
+/// an accepted volume the cylinders that are given, and where the records
+/// stand, are those of the walk; 0 is given on both sides of 1 to L.
+fn walk(seed: u64, index: usize, largest: usize) -> Result<(), String> {
+    let image = case(seed, index, largest).image;
+    let judged = judge(&image);
+    let packed = packed::judged(&judged);
+    let walked = judged.as_ref().map(walked::of).unwrap_or_default();
+    let right: Vec<u64> = walked.iter().map(|&physical| physical as u64).collect();
+    let last = right.len() as u64 + 1;
+    let given = |cylinder| packed::physical(packed, cylinder);
+    let is: Vec<u64> = (1..last).map(given).collect();
+    ensure(is == right, || format!("{is:?}, not {right:?}"))?;
+    ensure([0, last, u64::MAX].map(given) == [0; 3], || {
+        "a cylinder outside 1 to L".to_string()
+    })?;
+    let Ok(geometry) = judged else { return Ok(()) };
+    let records = geometry.walk(0, geometry.data_records() - 1);
+    let addresses = walked::addresses(&geometry);
+    ensure(
+        records
+            .map(|record| record.1)
+            .eq(addresses.iter().map(|a| a.1)),
+        || "records stand elsewhere".to_string(),
+    )
 }

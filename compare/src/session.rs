@@ -3,9 +3,9 @@
 
 use crate::account::{holds, List};
 use crate::cover::Cover;
-use crate::drive::{expected, knows, Driver, Outcome};
+use crate::drive::{expected, knows, outcome_of, Driver, Outcome};
 use crate::make::Case;
-use crate::model::Call;
+use crate::model::{Answer, Call};
 use crate::options::SHOWN;
 use crate::packed::in_words;
 use crate::slots;
@@ -119,6 +119,29 @@ impl Session {
                 _ => Ok(()),
             };
             self.demand(&case, held);
+        }
+        Ok(())
+    }
+
+    /// The same of cases with their whole answers: every lent byte that is
+    /// right as well. What they met of defective cylinders is counted.
+    pub fn compare_answered(
+        &mut self,
+        cases: impl Iterator<Item = (Case, Answer)>,
+    ) -> io::Result<()> {
+        for (case, right) in cases {
+            let right = outcome_of(&case.image, &case.call, right);
+            let (Some(is), Some(right)) = (self.compare_whole(&case)?, right) else {
+                continue;
+            };
+            let told = |outcome| said(outcome, &right, &case);
+            let held = match is == right {
+                true => Ok(()),
+                false => Err(format!("{}, not {}", told(&is), told(&right))),
+            };
+            if self.demand(&case, held) {
+                self.cover.count_cylinders(&case, is.returned);
+            }
         }
         Ok(())
     }

@@ -2,13 +2,14 @@
 //! of request 2026-01, without `creating`: slot by slot, address by address,
 //! and with a small volume that has the proposed label alone.
 
-use crate::account::{addresses, digits, Address};
+use crate::account::digits;
 use crate::layout::Geometry;
 use crate::make::sample::Plain;
 use crate::model::Call;
 use crate::packed;
 use crate::refusal::Refusal;
 use crate::volume::judge;
+use crate::walked::{addresses, Address};
 
 /// What an accepted volume holds.
 pub struct Held<'a> {

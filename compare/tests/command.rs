@@ -54,7 +54,7 @@ fn check_prints_a_count_per_property() {
     let checked = run(&["check", "--seed", "9", "--count", "200"], b"");
     assert!(checked.status.success());
     let text = String::from_utf8(checked.stdout).expect("text");
-    assert_eq!(text.lines().count(), 14);
+    assert_eq!(text.lines().count(), 15);
     assert!(text.lines().all(|line| line.ends_with(" 200")));
 }
 
@@ -119,6 +119,8 @@ fn help_is_printed_and_misuse_is_2() {
         &["bodies", "F-10"],
         &["lengths", "write-F-10-long"],
         &["sample", "write-X-10"],
+        &["sample", "defects-5-6-0"],
+        &["serve", "--skip", "none"],
     ] {
         assert_eq!(run(wrong, b"").status.code(), Some(2));
     }

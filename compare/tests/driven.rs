@@ -33,6 +33,7 @@ fn the_program_itself_behind_a_pipe_differs_nowhere() {
     assert!(!text.contains("DIFFERENT"));
     for stage in [
         "version",
+        "cylinders",
         "followed",
         "salvaged",
         "broken",

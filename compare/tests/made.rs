@@ -3,6 +3,7 @@
 use compare::cover::cover;
 use compare::make::create_cases;
 use compare::make::rng::Rng;
+use compare::make::sample::{named, NAMES, OTHER_NAMES};
 use compare::make::{case, cases, counted, placings, sample, sizes, Case, FAMILIES, LEAST};
 use compare::packed::{code, geometry_of, reading_of, refusal, refusal_of};
 use compare::properties::{check, lent_bytes_stay};
@@ -47,7 +48,7 @@ fn counted_cases_keep_lent_bytes_and_are_many() {
     assert_eq!(number, COUNTED);
 }
 
-const COUNTED: usize = 321_280;
+const COUNTED: usize = 333_756;
 
 #[test]
 fn the_first_cases_touch_every_family() {
@@ -149,6 +150,9 @@ fn call_all(rng: &mut Rng, image: &[u8]) {
         },
         Call::Delete {
             slot: rng.pick(&numbers),
+        },
+        Call::Physical {
+            cylinder: rng.pick(&numbers),
         },
     ];
     for call in calls {
@@ -271,4 +275,16 @@ fn the_largest_files_reach_every_bound() {
         next,
     };
     assert_eq!(read(&image, 1, Place::START, &mut out), Ok(whole));
+}
+
+#[test]
+fn every_sample_that_is_named_is_made_and_judged_with_its_own_length() {
+    for name in NAMES.into_iter().chain(OTHER_NAMES) {
+        let image = named(name).expect("a sample");
+        if let Ok(geometry) = judge(&image) {
+            assert_eq!(image.len(), geometry.image_length(), "{name}");
+        } else {
+            assert_eq!(name, "refused");
+        }
+    }
 }

@@ -23,8 +23,8 @@ fn every_case_is_answered_as_told_and_a_refusal_changes_no_lent_byte() {
 const COUNTS: [(&str, usize); 5] = [
     ("version-and-fault", 680),
     ("version-and-field", 360),
-    ("version-both-forms", 495),
-    ("version-old-form", 495),
+    ("version-both-forms", 540),
+    ("version-old-form", 540),
     ("version-pair", 8_192),
 ];
 
@@ -38,6 +38,7 @@ fn the_old_form_of_every_small_sample_is_refused_3_at_80_by_every_call() {
             assert_eq!(given.image, old, "{name}");
             match &call {
                 Call::Listing => assert_eq!(given.out, b"REFUSED 3 80\n", "{name}"),
+                Call::Physical { .. } => assert_eq!(given.packed, 0, "{name}"),
                 Call::Read { out, .. } | Call::Salvage { out, .. } => {
                     assert_eq!((given.packed, &given.out), (at_80, out), "{name}");
                 }

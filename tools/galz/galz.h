@@ -1,5 +1,5 @@
 /*
- * galz, the library's tool for the bench: what its parts share. main.c takes the command line apart; show.c has judge and list, take.c read, salvage and
+ * galz, the library's tool for the bench: what its parts share. main.c takes the command line apart; show.c has judge, cylinders and list, take.c read, salvage and
  * extract-all, put.c write, make.c create and delete; image.c loads and stores images and finds what stands where in one, forms.c has the forms of records in
  * host files, refusals.c what is said of a refusal, host.c the files of the host.
  */
@@ -39,6 +39,7 @@ struct words {
 
 /* show.c, take.c, put.c, make.c: the commands, on an image that has been loaded */
 enum status judge(struct bytes *image, const struct words *words);
+enum status cylinders(struct bytes *image, const struct words *words);
 enum status list(struct bytes *image, const struct words *words);
 enum status read_file(struct bytes *image, const struct words *words);
 enum status salvage_file(struct bytes *image, const struct words *words);

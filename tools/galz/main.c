@@ -22,6 +22,9 @@ static const struct command {
 	{ "judge", judge, 0, "i",
 	  "galz judge IMAGE\n"
 	  "  The volume's numbers, or why it is refused.\n" },
+	{ "cylinders", cylinders, 0, "i",
+	  "galz cylinders IMAGE\n"
+	  "  A line for each data cylinder: its number c; q, which is c past the first defective cylinder; the physical cylinder, which is q past the second.\n" },
 	{ "list", list, 0, "i",
 	  "galz list IMAGE\n"
 	  "  The volume line and a line for each label: slot, name, level, format, blocking, B, R, start, end, blocks, U.\n" },
@@ -269,7 +272,7 @@ static enum status help(void)
 
 static enum status version(void)
 {
-	puts("galz 1.1 (GOST 28081-89)");
+	puts("galz 1.2 (GOST 28081-89)");
 	return DONE;
 }
 

@@ -1,4 +1,4 @@
-/* judge and list: what a volume is, and what is on it. */
+/* judge, cylinders and list: what a volume is, and what is on it. */
 #include "galz.h"
 
 /* the volume's name: VOL1 stands right before slot 1 */
@@ -47,6 +47,18 @@ enum status judge(struct bytes *image, const struct words *words)
 	       galz_sides(volume));
 	show_defects(volume);
 	printf("slots %u\nlabels %u\nfree %llu\n", galz_slots(volume), labels_of(image, volume), galz_number(galz_free(image->at, image->length)));
+	return DONE;
+}
+
+/* "For data cylinder c from 1 to L: q is c, or c+1 if d1 is present and d1 <= c; the physical cylinder is q, or q+1 if d2 is present and d2 <= q." */
+enum status cylinders(struct bytes *image, const struct words *words)
+{
+	(void)words;
+	galz_u64 volume = galz_judge(image->at, image->length);
+	if (galz_refused(volume))
+		return say_refusal(image, volume);
+	for (unsigned c = 1; c <= galz_cylinders(volume); c++)
+		printf("%u|%llu|%u\n", c, galz_skip(galz_defect_1(volume), c), galz_physical(volume, c));
 	return DONE;
 }
 

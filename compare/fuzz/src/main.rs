@@ -41,7 +41,7 @@ fn judge() -> Judge {
 
 /// Notes an answer by its call, its code, and two small numbers: the places of
 /// a refusal, the place behind a reading, the defects of a volume, slot and
-/// cylinder of a created file, a count.
+/// cylinder of a created file, a count, a physical cylinder.
 fn note(call: &Call, returned: u64) {
     let next = place_of(returned);
     let (kind, first, second) = match (call, refusal_of(returned)) {
@@ -52,6 +52,7 @@ fn note(call: &Call, returned: u64) {
         (Call::Judge, None) => (4, returned >> 32 & 0xFF, returned >> 40),
         (Call::Find { .. }, None) => (5, returned >> 24, 0),
         (Call::Delete { .. }, None) => (5, returned, 1),
+        (Call::Physical { .. }, None) => (6, returned, 1),
         (Call::Create { .. }, None) => (7, returned >> 24, returned % (1 << 24) / 1000),
         _ => (6, returned, 0),
     };

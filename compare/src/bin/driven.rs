@@ -6,7 +6,7 @@ use compare::make::build::plain_geometry;
 use compare::make::create_cases::right_fields;
 use compare::make::rng::Rng;
 use compare::make::sample::{named, NAMES};
-use compare::make::{bad::bad, cases, counted, version, Case};
+use compare::make::{bad::bad, cases, counted, cylinders, version, Case};
 use compare::options::{Options, SEED};
 use compare::session::Session;
 use compare::{created, edges, follow, judge, odd, uncreated, unwritten, written, Call};
@@ -18,9 +18,12 @@ driven [--seed N] [--count N] [--largest BYTES] [--every N] -- COMMAND..
 
 Runs the driver by COMMAND and compares with it
 - the samples, up to the largest volume, and so many drawn cases, with images of at most so many bytes, each asked for
-  its judgement, its free records, blocks of slots, files of names, a create, a delete and what the case itself asks;
+  its judgement, its free records, blocks of slots, files of names, a create, a delete, a physical cylinder and what the
+  case itself asks;
 - of the cases that are counted out, one of every N; all of those of the version digit, positions 79 and 80 of VOL1, each
-  with the number that is right;
+  with the number that is right; all of those of the skip of defective cylinders, each with the number and every byte
+  that is right by the walk over good cylinders: what ERMAP may say of five cylinders, physical cylinders, and files that
+  are read, salvaged, written, created and deleted on volumes with every pair of defects;
 - bad input: random bytes, a volume cut to every length, every value of every
   byte of its VOL1 and ERMAP sectors;
 - whole files, plainly and in salvage, by following the places that the library gives: of N/2 sound volumes, of N/4 with
@@ -35,8 +38,8 @@ Runs the driver by COMMAND and compares with it
 - creates and deletes, counted out and N/4 drawn ones, refused or done; behind each that is done every byte of the image
   is accounted for, and the file, all other files, judgement, free records and names are asked; fields of any bytes; on
   N/100 volumes chains of deletes, creates and writes until the volume is full and until it is empty.
-What calls of reading, salvage, writing, creating and deleting have reached is printed; all of the table has to be. The
-last line is 'N passed, M failed'.
+What calls of reading, salvage, writing, creating and deleting have reached is printed, and what those of the skip have;
+all of the table has to be. The last line is 'N passed, M failed'.
 ";
 
 const DEFAULTS: [(&str, u64); 4] = [
@@ -103,6 +106,7 @@ fn volumes(session: &mut Session, options: &Options) -> io::Result<()> {
     session.stage("drawn", |on| on.compare_all(drawn))?;
     session.stage("counted", |on| on.compare_all(some))?;
     session.stage("version", |on| on.compare_told(version::told()))?;
+    session.stage("cylinders", |on| on.compare_answered(cylinders::all()))?;
     session.stage("bad", |on| on.compare_all(bad(seed, count)))
 }
 
@@ -177,6 +181,8 @@ fn asked((number, case): (usize, Case)) -> Vec<Case> {
     let fields = right_fields(&mut rng, &geometry);
     let n = rng.between(1, 3) as u64;
     calls.extend([Call::Delete { slot }, Call::Create { fields, n }]);
+    let cylinder = rng.below(geometry.l + 2) as u64;
+    calls.push(Call::Physical { cylinder });
     calls
         .into_iter()
         .map(|call| Case {

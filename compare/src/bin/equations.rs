@@ -6,7 +6,7 @@
 //! so that this file knows only the names that it cites.
 
 use compare::cover::Cover;
-use compare::make::{cases, counted, placings, Case};
+use compare::make::{cases, counted, cylinders, placings, Case};
 use compare::packed::{code, GAP};
 use compare::{answer, listing, Call};
 use std::collections::BTreeMap;
@@ -23,10 +23,11 @@ equations DEFINITIONS OUT --image FILE
 Writes the crates equations_1, equations_2 .. below the folder OUT, equations
 about each of so many cases to a crate: DEFINITIONS is the folder specs/ of the crate standard. First
 come cases that reach every refusal, position, answer and shape between them,
-those of creating and deleting for themselves, then salvages that give gaps and go on behind them; of the rest every
+those of creating and deleting for themselves, then salvages that give gaps and go on behind them, and physical
+cylinders of volumes with defects, by the two comparisons and by the walk; of the rest every
 other one is drawn from the seed, with images of at most so many bytes, or taken evenly from those counted out.
-Prints a line for each crate: its name, the number of its equations, and 'needed' if one of them is of the first sort
-or a salvage, else 'more'.
+Prints a line for each crate: its name, the number of its equations, and 'needed' if one of them is of the first sort,
+a salvage or a physical cylinder, else 'more'.
 With --image the cases are the judgement, the free records and the listing of
 that image, and the listing is printed.
 ";
@@ -141,6 +142,7 @@ fn chosen(options: &Options) -> io::Result<(Vec<Case>, usize)> {
         all.extend(salvaged(options, |mark, code| mark == 0 && code == GAP));
         all.extend(salvaged(options, |mark, code| mark != 0 && code == GAP));
         all.extend(salvaged(options, |mark, code| mark != 0 && code == 0));
+        all.extend(skipped());
         let needed = all.len();
         let rest = options.count.saturating_sub(needed);
         let drawn = cases(options.seed, rest.div_ceil(2), options.largest);
@@ -215,6 +217,19 @@ fn salvaged(options: &Options, wanted: fn(u64, u8) -> bool) -> impl Iterator<Ite
 
 /// The largest image of the counted cases that are taken.
 const COUNTED: usize = 4_700;
+
+/// Data cylinders that a defective one moves, of small volumes.
+fn skipped() -> Vec<Case> {
+    let moved = |case: &Case| match case.call {
+        Call::Physical { cylinder } => answer(&case.image, &case.call).packed > cylinder,
+        _ => false,
+    };
+    let all = cylinders::all().map(|(case, _)| case);
+    let small = all.filter(|case| case.image.len() <= COUNTED);
+    let all: Vec<Case> = small.filter(moved).collect();
+    let step = all.len().div_ceil(OF_EACH).max(1);
+    all.into_iter().step_by(step).collect()
+}
 
 /// So many counted cases: as many of each family, and those evenly spread.
 fn evenly(count: usize) -> Vec<Case> {
@@ -292,8 +307,9 @@ impl Preamble {
 }
 
 /// Those of the cited names that are no `unfoldable` definitions.
-const CITED: [&str; 9] = [
+const CITED: [&str; 10] = [
     "bytes",
+    "volumeOf",
     "readAnswer",
     "outputAfter",
     "written",
@@ -340,6 +356,12 @@ fn facts(number: usize, image: &[u8], call: &Call) -> Vec<String> {
     };
     match call {
         Call::Judge => vec![format!("packedJudged (judged {image_name}) ≡ {packed}")],
+        // 0 is given where there is no such cylinder: nothing to define.
+        Call::Physical { .. } if packed == 0 => facts(number, image, &Call::Judge),
+        // The two comparisons, and the walk beside them.
+        Call::Physical { cylinder } => ["physical", "walked"]
+            .map(|by| format!("{by} (volumeOf {image_name}) {cylinder} ≡ {packed}"))
+            .to_vec(),
         Call::Find { name } => {
             vec![format!(
                 "packedFound (found {image_name} ({})) ≡ {packed}",

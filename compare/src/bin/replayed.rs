@@ -18,8 +18,8 @@ inputs and in what is to be reached.
 ";
 
 /// Calls that have to be done.
-const CALLS: [&str; 9] = [
-    "judge", "find", "count", "free", "read", "salvage", "write", "create", "delete",
+const CALLS: [&str; 10] = [
+    "judge", "find", "count", "free", "read", "salvage", "write", "create", "delete", "physical",
 ];
 
 fn main() -> ExitCode {

@@ -112,27 +112,20 @@ pub fn reading_call(
     call_at(rng, slot, place, salvaging, out)
 }
 
+/// Plain reading or salvage of a place by its numbers: block, offset, mark.
+#[rustfmt::skip]
+pub fn reading_of(slot: u64, place: [u64; 3], salvaging: bool, out: Vec<u8>) -> Call {
+    let [block, offset, mark] = place;
+    match salvaging {
+        false => Call::Read { slot, block, offset, mark, out },
+        true => Call::Salvage { slot, block, offset, mark, out },
+    }
+}
+
 /// Reading or salvage from a place; a mark is any number but 0.
 pub fn call_at(rng: &mut Rng, slot: u64, place: Place, salvaging: bool, out: Vec<u8>) -> Call {
-    let Place { block, offset, .. } = place;
     let mark = if place.mark { 1 + rng.draw() / 2 } else { 0 };
-    if salvaging {
-        Call::Salvage {
-            slot,
-            block,
-            offset,
-            mark,
-            out,
-        }
-    } else {
-        Call::Read {
-            slot,
-            block,
-            offset,
-            mark,
-            out,
-        }
-    }
+    reading_of(slot, [place.block, place.offset, mark], salvaging, out)
 }
 
 /// The place after some steps from Start, as long as there is a next one.

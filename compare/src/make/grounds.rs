@@ -3,7 +3,7 @@
 //! defective and check-failed records where they matter.
 
 use super::rng::Rng;
-use super::sample::{ermap, hdr1, Plain};
+use super::sample::{hdr1, Plain};
 use crate::text::address_digits;
 
 /// Level, position 40, position 63, B, and 54-57.
@@ -145,16 +145,13 @@ fn check_failed(number: usize, record: usize) -> bool {
 
 fn geometry(number: usize, k: u8, s: usize) -> Plain {
     let d = [4, 5, 6][number % 3];
-    let mut plain = Plain::new(3, 10 + number % 3, d, k, s);
     let (d1, d2) = match number % 5 {
         0 | 1 => (None, None),
         2 => (Some(1), None),
         3 => (Some(2), Some(3)),
         _ => (Some(2), Some(4)),
     };
-    (plain.geometry.d1, plain.geometry.d2) = (d1, d2);
-    plain.set_sector(5, 1, &ermap(&plain.geometry));
-    plain
+    Plain::new(3, 10 + number % 3, d, k, s).with_defects(d1, d2)
 }
 
 /// A file beside the one that is written, full of what stands there.

@@ -7,6 +7,8 @@ pub mod calls;
 pub mod content_cases;
 pub mod create_cases;
 pub mod create_tables;
+pub mod cylinders;
+pub mod defects;
 pub mod fields;
 pub mod file;
 pub mod file_cases;

@@ -1,5 +1,6 @@
 //! Every place of a few files, and writes of every two or three lengths.
 
+use super::calls::reading_of;
 use super::sample::{hdr1, Plain};
 use super::tables::{record_length, table, Edits, Table};
 use crate::model::Call;
@@ -33,22 +34,7 @@ fn with_blocks(format: &[u8; 1], blocking: &[u8; 1], u: &[u8; 5], blocks: &[&[u8
 /// Reading and salvage from a place.
 pub(super) fn both(block: u64, offset: u64, mark: u64, room: usize) -> [Call; 2] {
     let out = vec![b'.'; room];
-    [
-        Call::Read {
-            slot: 1,
-            block,
-            offset,
-            mark,
-            out: out.clone(),
-        },
-        Call::Salvage {
-            slot: 1,
-            block,
-            offset,
-            mark,
-            out,
-        },
-    ]
+    [false, true].map(|salvaging| reading_of(1, [block, offset, mark], salvaging, out.clone()))
 }
 
 /// Every place of blocks 0 to `count` + 1, with and without the mark.

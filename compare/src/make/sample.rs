@@ -1,6 +1,7 @@
 //! Volumes made by hand: the sample of document 01's listing and a few more.
 
 use super::build::{ermap_of, plain_geometry, vol1_of};
+use super::defects;
 use super::positions::{free_in, plain_label, ERMAP, HDR1, VOL1};
 use super::sizes::{largest, read_sample, smallest, to_place, to_write, typical};
 use crate::layout::{Geometry, INDEX_SECTOR};
@@ -40,7 +41,7 @@ fn vol1(geometry: &Geometry) -> Vec<u8> {
 }
 
 /// ERMAP of a geometry.
-pub fn ermap(geometry: &Geometry) -> Vec<u8> {
+fn ermap(geometry: &Geometry) -> Vec<u8> {
     plain_label(&ERMAP, |position| ermap_of(geometry, position))
 }
 
@@ -63,6 +64,14 @@ impl Plain {
         plain.set_sector(5, 1, &ermap(&geometry));
         plain.set_sector(7, 1, &vol1(&geometry));
         plain
+    }
+
+    /// The same with defective cylinders, in the geometry and in ERMAP.
+    pub fn with_defects(mut self, d1: Option<usize>, d2: Option<usize>) -> Plain {
+        (self.geometry.d1, self.geometry.d2) = (d1, d2);
+        let ermap = ermap(&self.geometry);
+        self.set_sector(5, 1, &ermap);
+        self
     }
 
     /// Sets positions, from 1, of an index sector of side 0, from 01.
@@ -216,6 +225,16 @@ pub const NAMES: [&str; 11] = [
     "largest-none",
 ];
 
+/// Names with numbers and other words in them, one of each sort.
+pub const OTHER_NAMES: [&str; 6] = [
+    "F-100",
+    "S-4900-lost",
+    "write-V-1000-short",
+    "create-typical",
+    "delete-largest",
+    "defects-73-73-74",
+];
+
 /// A sample by its name.
 pub fn named(name: &str) -> Option<Vec<u8>> {
     Some(match name {
@@ -234,7 +253,8 @@ pub fn named(name: &str) -> Option<Vec<u8>> {
             let written = || to_write(name).map(|made| made.image);
             return read_sample(name)
                 .or_else(written)
-                .or_else(|| to_place(name));
+                .or_else(|| to_place(name))
+                .or_else(|| defects::sample(name));
         }
     })
 }

@@ -180,6 +180,7 @@ pub fn calls(image: &[u8]) -> Vec<Call> {
             n: 1,
         },
         Call::Delete { slot: 1 },
+        Call::Physical { cylinder: 1 },
     ];
     calls.extend(both(0, 0, 0, 4_000));
     calls
@@ -190,7 +191,7 @@ pub fn calls(image: &[u8]) -> Vec<Call> {
 fn both_forms_called(image: Vec<u8>) -> impl Iterator<Item = Told> {
     calls(&image).into_iter().flat_map(move |call| {
         let old = match call {
-            Call::Listing => 0,
+            Call::Listing | Call::Physical { .. } => 0,
             _ => refused(3, 80),
         };
         let same = answer(&image, &call).packed;

@@ -10,7 +10,9 @@ use lib.ListN.{length, take, drop}
 use native.Mathlib.Omega.{arith}
 use Rattle.standard.specs.Characters.{bytes, byte, oneOf, same, at}
 use Rattle.standard.specs.Refusals.{refuse}
-use Rattle.standard.specs.Layout.{imageLength, vol1Of, indexSectors, labelAt, slotCount, kAt, bodySize, kindOffset, bodyOffset, slotOrdinal, labelOffset, kindAt, bodyAt, validMark}
+use Rattle.standard.specs.Layout.{ordinalAt, imageLength, vol1Of, indexSectors, labelAt, slotCount, kAt, bodySize, kindOffset, bodyOffset, slotOrdinal, labelOffset, kindAt, bodyAt, validMark}
+use Rattle.standard.specs.Defects.{skipOne, physical}
+use Rattle.standard.specs.Skips.{StopsAt, walked}
 use Rattle.standard.specs.Addresses.{ordinal, addressCount, legal, rank}
 use Rattle.standard.specs.Labels.{knownLevel, nameOf}
 use Rattle.standard.specs.Slots.{hasLabel, isLabel}
@@ -32,17 +34,19 @@ use Rattle.standard.specs.declared.Counted.the-variants.{Uncounted, Count}
 use Rattle.promises.specs.Ground.Basics.{never}
 use Rattle.promises.specs.Refusals.Refusing.{Exactly}
 use Rattle.promises.specs.Bounds.VersionNamed.{HoldBelow80}
+use Rattle.promises.specs.Bounds.PackedLaws.{bits}
 use Rattle.promises.specs.Volumes.VolumeNumbers.{Numbers, numbers-of, image-range}
 use Rattle.promises.specs.Volumes.Judging.{accepted as stages-of}
 use Rattle.promises.specs.Volumes.AcceptedLaws.{image-length}
 use Rattle.promises.specs.Volumes.VolumePromises.{RecordInRange}
+use Rattle.promises.specs.Extents.DefectsApart.{OnDefect}
 use Rattle.promises.specs.Volumes.FindingLaws.{find-slot as found-in-slot, slot-handed-out}
 use Rattle.promises.specs.Volumes.FreeLaws.{extentsBelow}
 use Rattle.promises.specs.Images.Sectors.{AgreeOn, sectorOf}
-use Rattle.promises.specs.Demands.{extents-in-range, sharing-no-record, extent-is, finding-gives, label-given, free-gives, locality, write-counts}
-use Rattle.promises.specs.Requested.{version-digit, version-refused, named-by-3}
+use Rattle.promises.specs.Demands.{extents-in-range, extents-off-defects, sharing-no-record, extent-is, finding-gives, label-given, free-gives, locality, write-counts}
+use Rattle.promises.specs.Requested.{version-digit, version-refused, named-by-3, skip-is-walk, skip-is-any-walk, accepted-pair, stands-where-walked, number-skips}
 use Rattle.promises.specs.Instances.{demo, demoVolume, demoBodies, demoLengths, demoOld, demo-accepted, demo-version}
-use Rattle.demanded.specs.Calls.{Response, Meets, ByName, InSlot, named, inSlot, judge, find, find-slot, label-named, label-in-slot, free, count, contract}
+use Rattle.demanded.specs.Calls.{Response, Meets, ByName, InSlot, named, inSlot, judge, find, find-slot, label-named, label-in-slot, free, count, contract, galz-judge, exported}
 
 -- ======== JUDGING
 module _ (judger : List ℕ → Response Judged) (judges : Meets (contract judge) judger) where
@@ -73,6 +77,11 @@ module _ (judger : List ℕ → Response Judged) (judges : Meets (contract judge
         → Exactly (List·Memᴰ a (extent g (labelAt g image slot))) ((legal g a ≡ true) × (inExtent g (labelAt g image slot) (rank g a) ≡ true))
     has-whole-extents slot a h = extent-is image g slot a accepted h
 
+    -- "data skip them (house)": no extent has a sector of a defective cylinder (`OnDefect`). So none is read (Readers, `looks-past-defects`), and none is changed
+    -- (Writers, `leaves-defects`)
+    pub keeps-off-defects : (slot n : ℕ) → hasLabel g image slot ≡ true → sectorOf g (extent g (labelAt g image slot)) n ≡ true → OnDefect g n → ⊥
+    keeps-off-defects = extents-off-defects image g accepted
+
     -- "sharing no record"
     pub shares-no-record : (slot other : ℕ) (a b : Address) → hasLabel g image slot ≡ true → hasLabel g image other ≡ true
         → List·Memᴰ a (extent g (labelAt g image slot)) → List·Memᴰ b (extent g (labelAt g image other)) → ordinal g a ≡ ordinal g b → slot ≡ other
@@ -81,6 +90,14 @@ module _ (judger : List ℕ → Response Judged) (judges : Meets (contract judge
     -- request 2026-02, "Position 80 must be `3`"
     pub has-version : at (vol1Of image) 80 ≡ byte "3"
     has-version = version-digit image g accepted
+
+    -- request 2026-03, "What it answers stays the same for every cylinder and pair of defects": with the numbers that it gives, the two comparisons (`physical`) lead to the
+    -- cylinder at which a walk that counts good ones stops, as a loop (`walked`) and however it is written (`StopsAt`); and every address stands there
+    pub skips-as-walked : (c : ℕ) → (walked g c ≡ physical g c) × ((n : ℕ) → 1 ≤ c → Exactly (n ≡ physical g c) (StopsAt g c n))
+    skips-as-walked c = let p = accepted-pair image g accepted in (skip-is-walk g p c, skip-is-any-walk g p c)
+
+    pub stands-as-walked : (a : Address) → ordinal g a ≡ ordinalAt g (walked g (a .cylinder)) (a .side) (a .sector)
+    stands-as-walked = stands-where-walked image g accepted
 
   -- "Refusals: 3 now names 80 and no longer 79": exactly if neither 1 nor 2 is given, the rules of VOL1's positions below 80 hold, and 80 is not `3`; and these are all
   -- the positions that a 3 names. (79 is not judged: Unseen, `reserve-at-79`.)
@@ -102,6 +119,13 @@ module _ (judger : List ℕ → Response Judged) (judges : Meets (contract judge
   -- "These programs have to be rejected: one refusing everything": a small volume with an empty file (`demo`, in Instances) is accepted
   pub no-refusing-judge : (x : Refusal) → judger demo .answer ≡ Refused x → ⊥
   no-refusing-judge x h = let e = sym (demo-accepted .1) ∙ (sym (judges demo .0) ∙ h) in never (cc)
+
+-- the same for C, of the number that is returned: by comparing with its bits 32-39 and 40-47, d1 and d2 (galz_physical), a caller has the cylinder of the walk
+module _ (judger : List ℕ → Response ℕ) (judges : Meets (exported galz-judge) judger) where
+  pub number-skips-as-walked : (image : List ℕ) (g : Geometry) (c : ℕ) → judged image ≡ Volume g
+      → let n = judger image .answer in skipOne (bits 40 8 n) (skipOne (bits 32 8 n) c) ≡ walked g c
+  number-skips-as-walked image g c j =
+      ap (λ (n : ℕ). skipOne (bits 40 8 n) (skipOne (bits 32 8 n) c)) (judges image .0) ∙ number-skips image g j c
 
 -- ======== FINDING
 module _ (finder : ByName → Response Found) (finds : Meets (contract find) finder) where

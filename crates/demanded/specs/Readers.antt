@@ -7,7 +7,7 @@ use Prim.Native.Nat.{ℕ, zero, suc, _*_, _≤_}
 use mathlib.Core.Path.{_≡_, refl, sym, ap, subst, _∙_}
 use mathlib.Core.Bool.{Bool, true}
 use mathlib.Core.List.{List, [], _∷_, _++_, map, List·Memᴰ}
-use lib.ListN.{length, take, drop}
+use lib.ListN.{length, take, drop, replicate}
 use Rattle.standard.specs.Characters.{bytes}
 use Rattle.standard.specs.Layout.{indexSectors, labelAt}
 use Rattle.standard.specs.Judgement.{judged}
@@ -31,14 +31,15 @@ use Rattle.promises.specs.Reading.ReadingLaws.{bodyOf}
 use Rattle.promises.specs.Reading.Following.{Heard, told, gapAt, done, refused, onward, following, heardIn}
 use Rattle.promises.specs.Reading.AnyPlace.{listedFrom}
 use Rattle.promises.specs.Images.Sectors.{AgreeOn, sectorOf}
+use Rattle.promises.specs.Extents.DefectsApart.{SameOffDefects}
 use Rattle.promises.specs.Salvage.Failing.{Failed, Spares, OfBlocks, ReadsWhole, gone, expected}
 use Rattle.promises.specs.Reading.WholeLaws.{opens-whole}
 use Rattle.promises.specs.Salvage.Failable.{failedAt, failedIn, among}
 use Rattle.promises.specs.Salvage.PlainFailed.{FirstGone, NoneGone, first-or-none, cutAt}
 use Rattle.promises.specs.Reading.Runs.{Stands}
 use Rattle.promises.specs.Reading.GoingOn.{Finished}
-use Rattle.promises.specs.Demands.{gap-stays, end-stays, record-stays, reading-gives, reading-gives-from, reading-goes-on, record-leads, gap-leads, end-leads, salvage-gives, plain-gives, blocks-may-fail, never-joined, joined-rightly, locality}
-use Rattle.promises.specs.Instances.{image, output, geometry, bodies, computed, fails-9, of-blocks}
+use Rattle.promises.specs.Demands.{gap-stays, end-stays, record-stays, reading-gives, reading-gives-from, reading-past-defects, reading-goes-on, record-leads, gap-leads, end-leads, salvage-gives, plain-gives, blocks-may-fail, never-joined, joined-rightly, locality}
+use Rattle.promises.specs.Instances.{image, output, geometry, bodies, computed, fails-9, of-blocks, skipping, skipping-heard}
 use Rattle.demanded.specs.Calls.{Response, Meets, Asked, ask, read, contract}
 use Rattle.demanded.specs.Called.{defined, answered}
 
@@ -148,6 +149,15 @@ module _ (m : Mode) (r : Reader) (meets : Reads m r) where
         → followed n r image slot out pl ≡ heardIn (length out) (take n (listedFrom m (fileIn g image (labelAt g image slot)) pl))
     gives-from n out pl h = followed-is m r meets n image slot out pl ∙ reading-gives-from image g slot accepted opens m n out pl h
 
+  answered-alike : (image image′ : List ℕ) (slot : ℕ)
+      → ((pl : Place) (out : List ℕ) → readAnswer m image slot pl out ≡ readAnswer m image′ slot pl out)
+      → ((pl : Place) (out : List ℕ) → outputAfter m image slot pl out ≡ outputAfter m image′ slot pl out)
+      → (pl : Place) (out : List ℕ) → (r (ask image slot pl out) .answer ≡ r (ask image′ slot pl out) .answer) × (r (ask image slot pl out) .after ≡ r (ask image′ slot pl out) .after)
+  answered-alike image image′ slot answers outputs pl out = (
+    meets (ask image slot pl out) .0 ∙ answers pl out ∙ sym (meets (ask image′ slot pl out) .0),
+    meets (ask image slot pl out) .1 ∙ outputs pl out ∙ sym (meets (ask image′ slot pl out) .1),
+  )
+
   -- ======== LOCALITY
   -- "Two accepted images equal in the index cylinder and in one file's extent give equal answers to every reading of that file."
   -- `AgreeOn g set`: the images have the same bytes in every sector of the set; `sectorOf g addresses`: the set of the sectors that have these addresses
@@ -155,11 +165,16 @@ module _ (m : Mode) (r : Reader) (meets : Reads m r) where
       → take (indexSectors g * 129) image ≡ take (indexSectors g * 129) image′
       → AgreeOn g (sectorOf g (extent g (labelAt g image slot))) image image′
       → (pl : Place) (out : List ℕ) → (r (ask image slot pl out) .answer ≡ r (ask image′ slot pl out) .answer) × (r (ask image slot pl out) .after ≡ r (ask image′ slot pl out) .after)
-  local image image′ g g′ slot j j′ index extents pl out =
-      let same = locality image image′ g g′ slot j j′ index extents in (
-        meets (ask image slot pl out) .0 ∙ same .0 m pl out ∙ sym (meets (ask image′ slot pl out) .0),
-        meets (ask image slot pl out) .1 ∙ same .1 m pl out ∙ sym (meets (ask image′ slot pl out) .1),
-      )
+  local image image′ g g′ slot j j′ index extents =
+      let same = locality image image′ g g′ slot j j′ index extents in
+      answered-alike image image′ slot (same .0 m) (same .1 m)
+
+  -- "data skip them (house)": of two accepted images that differ on defective cylinders alone (`SameOffDefects`) every slot reads alike
+  pub looks-past-defects : (image image′ : List ℕ) (g g′ : Geometry) → judged image ≡ Volume g → judged image′ ≡ Volume g′ → SameOffDefects g image image′
+      → (slot : ℕ) (pl : Place) (out : List ℕ) → (r (ask image slot pl out) .answer ≡ r (ask image′ slot pl out) .answer) × (r (ask image slot pl out) .after ≡ r (ask image′ slot pl out) .after)
+  looks-past-defects image image′ g g′ j j′ others slot =
+      let same = reading-past-defects image g j image′ g′ j′ others slot in
+      answered-alike image image′ slot (same .0 m) (same .1 m)
 
 -- ======== DEMAND 3
 -- THE FILE'S RECORDS, of these bodies, each with the blocks in which it begins and ends: its own list, which ends in End. So nothing of them can be chosen
@@ -332,6 +347,13 @@ module _ (r : Reader) (meets : Reads salvage r) where
 
   pub no-stopping-salvage : (body : List ℕ) → followed 4 r (failedAt geometry 9 image) 1 output start ≡ told body ∷ done ∷ [] → ⊥
   no-stopping-salvage body h = let e = sym (salvager-heard r meets) ∙ h in never (cc)
+
+-- One that reads another cylinder than that of the two comparisons, by `<` for `≤`, by comparing d2 with c, or d2 before d1: of a volume with d1 = 1 and d2 = 2 whose
+-- sectors name their own cylinders (`skipping`), any reader, and any salvager, hears cylinders 3 and 4
+pub reads-past-two : (m : Mode) (r : Reader) → Reads m r
+    → followed 3 r skipping 1 (replicate 2 255) start ≡ told (bytes "03") ∷ told (bytes "04") ∷ done ∷ []
+reads-past-two plain r meets = followed-is plain r meets 3 skipping 1 (replicate 2 255) start ∙ skipping-heard .1
+reads-past-two salvage r meets = followed-is salvage r meets 3 skipping 1 (replicate 2 255) start ∙ skipping-heard .2
 
 -- One that gives what stands before the lost block, its gap and End, and never the record behind it, is not heard as demanded, whatever it is heard to do
 -- elsewhere. (`failedIn geometry (9 ∷ [])` is the same image; nothing is asked of the contract here: it is the demand's own words that rule it out.)

@@ -45,11 +45,12 @@ use Rattle.promises.specs.Writing.WriteEnds.{end-of-none, end-of-some, end-of-a
 use Rattle.promises.specs.Writing.WritingPromises.{joined, answers, labels-stay, needing-again}
 use Rattle.promises.specs.Writing.WrittenHeard.{RoomFor, toldIn, written-heard-in, written-whole}
 use Rattle.promises.specs.Images.Sectors.{sectorAt}
-use Rattle.promises.specs.Images.ByteSectors.{MayChange}
+use Rattle.promises.specs.Images.ByteSectors.{InSector, MayChange}
+use Rattle.promises.specs.Extents.DefectsApart.{OnDefect}
 use Rattle.promises.specs.Refusals.Refusing.{Exactly, order-first, first-order, accepted-write}
 use Rattle.promises.specs.Reading.Following.{told, done, following}
 use Rattle.promises.specs.Salvage.Failing.{Failed, Spares, OfBlocks, ReadsWhole}
-use Rattle.promises.specs.Demands.{write-list, write-counts, write-reads-back, write-changes-no-more, write-sets, write-stays-accepted, others-stay, finding-stays}
+use Rattle.promises.specs.Demands.{write-list, write-counts, write-reads-back, write-changes-no-more, writing-past-defects, write-sets, write-stays-accepted, others-stay, finding-stays}
 use Rattle.promises.specs.Instances.{demo, demoVolume, demoBodies, demoLengths, demo-accepted, demo-heard}
 use Rattle.demanded.specs.Calls.{Response, Meets, ByName, InSlot, Given, named, inSlot, ask, give, judge, find, find-slot, free, count, read, write, contract}
 use Rattle.demanded.specs.Called.{alike, answered, refuses-exactly}
@@ -169,6 +170,10 @@ module _ (w : Writer) (meets : Writes w) where
               subst (λ (s : List ℕ). (getD s i 0 ≡ getD image i 0) ⊎ MayChange g image slot n i) (sym left)
               (subst (λ (k : ℕ). (getD (imageAfter image slot bodies lengths) i 0 ≡ getD image i 0) ⊎ MayChange g image slot k i) (sym needs) (c .1 i))),
         )
+
+    -- "data skip them (house)": no byte of a defective cylinder changes. `InSector g i s`: byte i is in sector s; `OnDefect g s`: that is on a defective cylinder
+    pub leaves-defects : (i s : ℕ) → InSector g i s → OnDefect g s → getD after i 0 ≡ getD image i 0
+    leaves-defects i s at d = ap (λ (x : List ℕ). getD x i 0) left ∙ writing-past-defects image g accepted slot bodies lengths n i s so at d
 
     -- the image is accepted again, as the same volume
     pub stays-accepted : judged after ≡ Volume g

@@ -2,12 +2,13 @@
 -- Assumes nothing.
 use Prim.Native.Nat.{ℕ, _+_, _-_, _*_, _<_, _≤_}
 use mathlib.Core.Path.{_≡_, refl, ap, _∙_}
+use mathlib.Core.Bool.{true, false, _&&_}
 use mathlib.Core.List.{List}
 use lib.ListN.{getD, take, drop}
-use lib.Dec.{eqb}
+use lib.Dec.{leb, ltb, eqb}
 use native.Mathlib.Omega.{arith}
 use denote.Ref.{RefT}
-use borrow.Author.Tests.{lt-ltb, le-ltb, le-leb, lt-leb, eq-eqb, ne-eqb}
+use borrow.Author.Tests.{lt-ltb, le-ltb, eq-eqb, ne-eqb}
 use Rattle.standard.specs.Layout.{ordinalAt, indexSectors, kAt, kindOffset, bodyOffset, kindAt, firstByte, slotCount, slotOrdinal, labelOffset, labelAt}
 use Rattle.standard.specs.Defects.{skipOne, physical}
 use Rattle.standard.specs.Addresses.{ordinal}
@@ -74,18 +75,18 @@ pub label-part : (g : Geometry) (s : List ℕ) (slot a : ℕ) → a ≡ labelOff
 unfolding labelAt
 label-part g s slot a e = ap (λ (m : ℕ). take 128 (drop m s)) e
 
--- the skip of a defective cylinder
-pub skip-yes : (d c : ℕ) → 0 < d → d ≤ c → c + 1 ≡ skipOne d c
+-- one comparison: "[n]+1 if [d] is present and [d] ≤ [n]", else n; and the two, one behind the other
+pub skip-taken : (d n : ℕ) → (ltb 0 d && leb d n) ≡ true → n + 1 ≡ skipOne d n
 unfolding skipOne
-skip-yes d c h l = simp (lt-ltb 0 d h, le-leb d c l)
+skip-taken d n e = simp e
 
-pub skip-absent : (d c : ℕ) → d ≤ 0 → c ≡ skipOne d c
+pub skip-left : (d n : ℕ) → (ltb 0 d && leb d n) ≡ false → n ≡ skipOne d n
 unfolding skipOne
-skip-absent d c h = simp (le-ltb 0 d h)
+skip-left d n e = simp e
 
-pub skip-above : (d c : ℕ) → c < d → c ≡ skipOne d c
-unfolding skipOne
-skip-above d c h = simp (lt-ltb 0 d (omega arith), lt-leb d c h)
+pub skips-two : (g : Geometry) (c d1 q d2 r : ℕ) → d1 ≡ g .d1 → q ≡ skipOne d1 c → d2 ≡ g .d2 → r ≡ skipOne d2 q → r ≡ physical g c
+unfolding physical
+skips-two g c d1 q d2 r e1 eq e2 er = er ∙ cc
 
 pub first-physical : (c q : ℕ) → 1 ≤ c → c ≤ q → 1 ≤ q
 first-physical c q h k = omega arith

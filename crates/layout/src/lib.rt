@@ -153,24 +153,26 @@ pub fn slot_first(g: Geometry, image: &[u8], slot: u64) -> u64
     byte_of(image, label_offset(g, slot))
 }
 
-// "q is c, or c+1 if d1 is present and d1 ≤ c; the physical cylinder is q, or q+1 if d2 is present and d2 ≤ q."
-fn skip_one(d: u64, c: u64) -> u64
-    requires { ⌜ c < 65536 ⌝ }
-    ensures { λ r. ⌜ (r ≡ skipOne d c) × (c ≤ r) × (r ≤ c + 1) ⌝ }
+// "n, or n+1 if d is present and d ≤ n", of one defective cylinder d, 0 where it is absent.
+fn skip_one(d: u64, n: u64) -> u64
+    requires { ⌜ n < 65536 ⌝ }
+    ensures { λ r. ⌜ (r ≡ skipOne d n) × (n ≤ r) × (r ≤ n + 1) ⌝ }
 {
-    if 0 < d {
-        if d <= c {
-            return c + 1;
-        }
+    let present = 0 < d;
+    if present & (d <= n) {
+        return n + 1;
     }
-    c
+    n
 }
 
+// "For data cylinder c from 1 to L:"
 fn physical_of(g: Geometry, c: u64) -> u64
     requires { ⌜ c < 3000 ⌝ }
     ensures { λ r. ⌜ (r ≡ physical g c) × (c ≤ r) × (r ≤ c + 2) ⌝ }
 {
+    // "q is c, or c+1 if d1 is present and d1 ≤ c;"
     let q = skip_one(wide(g.d1), c);
+    // "the physical cylinder is q, or q+1 if d2 is present and d2 ≤ q."
     skip_one(wide(g.d2), q)
 }
 

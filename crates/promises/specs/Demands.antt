@@ -43,11 +43,12 @@ use Rattle.promises.specs.Images.Sectors.{AgreeOn, sectorOf}
 use Rattle.promises.specs.Reading.Following.{following, told, done as ended, heardIn}
 use Rattle.promises.specs.Salvage.Failing.{Failed, OfBlocks, ReadsWhole, Salvaged, Spares, expected}
 use Rattle.promises.specs.Reading.ReadingLaws.{bodyOf}
-use Rattle.promises.specs.Promises.{LocalityPromise, locality-promise}
+use Rattle.promises.specs.Promises.{LocalityPromise, same-answers, locality-promise}
 use Rattle.promises.specs.Salvage.PlainFailed.{PlainlyRead, PlainFailedAnyPromise, plain-failed-any-promise}
 use Rattle.promises.specs.Writing.WritingPromises.{joined, answers, length-stays, accepted-still, unused-set, end-set, records-are, counts, writing-again, writing-stays, readings-stay, counts-stay, names-stay, slots-stay, free-stays}
 use Rattle.promises.specs.Writing.WrittenHeard.{RoomFor, written-heard-all}
-use Rattle.promises.specs.Images.ByteSectors.{MayChange, write-changes}
+use Rattle.promises.specs.Images.ByteSectors.{InSector, MayChange, write-changes}
+use Rattle.promises.specs.Extents.DefectsApart.{OnDefect, SameOffDefects, extents-apart, same-off-defects, write-apart}
 use Rattle.promises.specs.Volumes.FindingLaws.{find-named, find-none, label-handed-out}
 use Rattle.promises.specs.Volumes.FreeLaws.{extentsBelow, free-counted, free-is}
 use Rattle.promises.specs.Refusals.ReadingRefused.{readList, read-first, record-laid, record-next, gap-next, end-next, FirstLost}
@@ -143,6 +144,24 @@ pub refused-for-sharing : (g : Geometry) (image : List ℕ) (r : Refusal) → re
     → (slot lower : ℕ) × (r ≡ refuse 11 slot) × (lower < slot) × (hasLabel g image slot ≡ true) × (hasLabel g image lower ≡ true)
     × (a : Address) × List·Memᴰ a (extent g (labelAt g image slot)) × List·Memᴰ a (extent g (labelAt g image lower))
 refused-for-sharing = refused-shares
+
+-- "These are physical numbers, and data skip them (house)." `OnDefect g n`: sector n of the image is on a defective cylinder. No extent has one: so two
+-- accepted images that differ in such sectors alone (`SameOffDefects`) read alike, and a write changes no byte of them (`InSector g i n`: byte i is in sector n).
+module _ (image : List ℕ) (g : Geometry) (accepted : judged image ≡ Volume g) where
+  pub extents-off-defects : (slot n : ℕ) → hasLabel g image slot ≡ true → sectorOf g (extent g (labelAt g image slot)) n ≡ true → OnDefect g n → ⊥
+  extents-off-defects = extents-apart image g accepted
+
+  pub reading-past-defects : (image′ : List ℕ) (g′ : Geometry) → judged image′ ≡ Volume g′ → SameOffDefects g image image′ → (slot : ℕ)
+      → ((m : Mode) (pl : Place) (out : List ℕ) → readAnswer m image slot pl out ≡ readAnswer m image′ slot pl out)
+      × ((m : Mode) (pl : Place) (out : List ℕ) → outputAfter m image slot pl out ≡ outputAfter m image′ slot pl out)
+      × (counted image slot ≡ counted image′ slot)
+  reading-past-defects image′ g′ j′ same slot =
+      let l = same-answers image image′ g g′ slot accepted j′ (same-off-defects image g accepted image′ slot same) in
+      (l .1, l .2, l .3)
+
+  pub writing-past-defects : (slot : ℕ) (bodies lengths : List ℕ) (k i n : ℕ) → written image slot bodies lengths ≡ Blocks k
+      → InSector g i n → OnDefect g n → getD (imageAfter image slot bodies lengths) i 0 ≡ getD image i 0
+  writing-past-defects slot bodies lengths k i n done = write-apart image g accepted slot bodies lengths (accepted-write image g accepted slot bodies lengths k done) i n
 
 -- what is found and handed out: "Names are 17 bytes, found among levels space, 1, 2 only"; "A file's label is handed out as the 128 bytes in the image itself"
 module _ (image : List ℕ) (g : Geometry) (accepted : judged image ≡ Volume g) where

@@ -1,5 +1,5 @@
--- Three small images in which the theorems say something: what is promised of images is promised of these. Examples 9 and 10 of the document in an image; a file
--- with a defective record, which shows what demand 3 does not promise; and a volume with a write to it that is accepted.
+-- Four small images in which the theorems say something: what is promised of images is promised of these. Examples 9 and 10 of the document in an image; a file
+-- with a defective record, which shows what demand 3 does not promise; a volume with a write to it that is accepted; and one with two defective cylinders.
 -- Assumes nothing.
 use Prim.Native.Nat.{ℕ, zero, suc, _+_, _-_, _*_, _<_}
 use mathlib.Core.Path.{_≡_, refl, subst, ap, _∙_}
@@ -214,6 +214,31 @@ pub demo-made : (created demo demoFields 1 ≡ Uncreated (refuse 12 1))
     × (imageAfterCreate (imageAfterDelete demo 1) demoFields 1 ≡ demo)
 unfolding oneOf same every aSet isDigit digitValue numberFrom spacesOrNumber isHex hexValue hexFrom padded given-when inOrder orElse lowestFault sectorCount kAt bodySize kindOffset bodyOffset imageLength kindAt bodyAt firstByte validMark incorrectMark checkFailed indexKind indexBody slotCount slotOrdinal labelOffset labelAt vol1Rules ermapRules ermapRule7 ermapRule11 rule41 rule42 rule43 rule45 rule64 rule73 fiveDigits addressIn addressOf legal rank before pastLast isAddress isDataEnd knownLevel anotherLevel formatOf recordLength unusedCount rule44 rule6 rule29 rule35 rule40 rule23 rule63 rule46 spacesOrDate rule48 rule67 rule54 rule58 rule75 hdr1Rules labelFault isLabel isDeleted isUnreadable slotRefusal slotsFrom hasLabel numbersIn legalKind kindsFrom clashesBelow clashesFrom overlap shares sameName namesake volumeRefusal judged extentSize isNamed foundFrom inExtent taken splice proposed proposedRules proposalFault deletedFrom lowestDeleted freeRun runFrom lowestRun createRefusal storeSlot imageCreated creation deleteRefusal deletion
 demo-made = (refl, refl, refl, refl, refl, refl, refl, refl)
+
+-- THE FOURTH, of request 2026-03: L = 2 with d1 = 1 and d2 = 2, and a file of F, B = R = 2, over both data cylinders, which stand on 3 and 4. Every cylinder has one
+-- sector, which begins with its number.
+abbrev pub skipping : List ℕ
+skipping =
+    blankSectors 4
+    ++ sector (bytes "ERMAP 010 020")
+    ++ sector []
+    ++ sector (bytes "VOL1DEMO01                                                             A       3020801  1")
+    ++ sector (bytes "HDR1 CYLINDERS        00002 01001 02001F   2         0002                 03001")
+    ++ sector (bytes "01")
+    ++ sector (bytes "02")
+    ++ sector (bytes "03")
+    ++ sector (bytes "04")
+    ++ sector (bytes "05")
+
+abbrev pub skippingVolume : Geometry
+skippingVolume = record { L = 2; I = 8; D = 1; k = 0; P = 128; S = 1; d1 = 1; d2 = 2 }
+
+-- it is accepted, and its records are those of cylinders 3 and 4
+pub skipping-heard : (judged skipping ≡ Volume skippingVolume)
+    × (following 3 plain skipping 1 (replicate 2 255) start ≡ told (bytes "03") ∷ told (bytes "04") ∷ done ∷ [])
+    × (following 3 salvage skipping 1 (replicate 2 255) start ≡ told (bytes "03") ∷ told (bytes "04") ∷ done ∷ [])
+unfolding oneOf same every aSet isDigit digitValue numberFrom spacesOrNumber isHex hexValue hexFrom given-when inOrder orElse lowestFault ordinalAt sectorCount kAt bodySize kindOffset bodyOffset imageLength kindAt bodyAt firstByte validMark incorrectMark checkFailed indexKind indexBody slotCount slotOrdinal labelOffset labelAt vol1Rules ermapRules ermapRule7 ermapRule11 rule41 rule42 rule43 rule45 rule64 rule73 skipOne physical fiveDigits addressIn fiveRead legal rank before stepped pastLast isAddress isDataEnd ordinal knownLevel anotherLevel formatOf recordLength unusedCount rule44 rule6 rule29 rule35 rule40 rule23 rule63 rule46 spacesOrDate rule48 rule67 rule54 rule58 rule75 hdr1Rules labelFault isLabel isDeleted isUnreadable slotRefusal slotsFrom hasLabel numbersIn legalKind kindsFrom clashesBelow clashesFrom overlap shares sameName namesake volumeRefusal judged addressesFrom extentSize extent isDefective goodAmong goodRecords recordsToBlock goodBefore dataEndAtStart dataEndInExtent blocksHeld blockCount isWrong wrongAmong splitsBlock countRefusal counted openRefusal anyFailed bytesOf blockOf blocksFrom fileIn fileAt firstMet step inFile readOn enough readAll join listed number4 roleOf lookF lookV lookS look walk pieces inBlock inBlocks ahead replyIn reply laidOver following
+skipping-heard = (refl, refl, refl)
 
 -- THE BLOCKS NEEDED, counted from the lengths alone: those of examples 8, 9 and 12
 pub needed-examples : (neededFrom variable true 30 0 0 (10 ∷ 10 ∷ 10 ∷ []) ≡ 2)

@@ -107,9 +107,10 @@ module _ (g : Geometry) (image image′ : List ℕ) (slot : ℕ) (p : 0 < g .P) 
     unfolding counted
     counted-same = rw (j, j′) count-in-same
 
--- the index cylinder and the extent of the label in a slot
+-- the index cylinder and, if there is a label in a slot, its extent
 unfoldable pub SameForFile : Geometry → List ℕ → List ℕ → ℕ → Type 0
-SameForFile g image image′ slot = AgreeOn g (inIndex g) image image′ × AgreeOn g (sectorOf g (extent g (labelAt g image slot))) image image′
+SameForFile g image image′ slot =
+    AgreeOn g (inIndex g) image image′ × (hasLabel g image slot ≡ true → AgreeOn g (sectorOf g (extent g (labelAt g image slot))) image image′)
 
 same-for-file : (g : Geometry) (image image′ : List ℕ) (slot : ℕ) → Numbers g → SameForFile g image image′ slot → SameFile g image image′ slot
 unfolding SameForFile AgreeOn
@@ -119,7 +120,7 @@ same-for-file g image image′ slot numbers same =
       label = λ l. index-label g image image′ numbers (same .0) slot (has-slot g image slot l .1);
       sectors = λ l.
           same-alike g image image′ (extent g (labelAt g image slot))
-          (every-sector (λ n. sectorAt g image n ≡ sectorAt g image′ n) g (extent g (labelAt g image slot)) (same .1));
+          (every-sector (λ n. sectorAt g image n ≡ sectorAt g image′ n) g (extent g (labelAt g image slot)) (same .1 l));
     }
 
 -- LOCALITY

@@ -23,6 +23,8 @@ use Rattle.standard.specs.Packing.{Packing, unusedIn, layF, recordV, lay
 use Rattle.standard.specs.Writing.{splice, unusedField}
 use Rattle.standard.specs.Rules.{lowestFault}
 use Rattle.standard.specs.Volume.{vol1Rules}
+use Rattle.standard.specs.Defects.{ermapRule7, ermapRule11, ermapRules, skipOne, physical}
+use Rattle.standard.specs.Skips.{goodCylinder, goodUpTo, walkOn, walked}
 use Rattle.standard.specs.declared.Geometry.{Geometry}
 use Rattle.standard.specs.declared.Place.{Place}
 use Rattle.standard.specs.declared.Refusal.{Refusal}
@@ -267,6 +269,59 @@ pub edges-vol1 :
 unfolding oneOf same every aSet isDigit digitValue numberFrom spacesOrNumber isHex hexValue hexFrom lowestFault vol1Rules
 edges-vol1 =
     (refl, refl, refl, refl, refl, refl, refl, refl, refl, refl, refl, refl, refl, refl, refl, refl, refl, refl, refl, refl, refl, refl, refl, refl, refl, refl, refl, refl, refl, refl, refl, refl, refl, refl)
+
+-- ERMAP of a volume with so many data cylinders, positions 7-9 and 11-13 as given: the position at fault
+abbrev ermap : ℕ → String → String → ℕ
+ermap L first second = lowestFault (ermapRules L (bytes "ERMAP " ++ (bytes first ++ (bytes " " ++ bytes second))))
+
+pub edges-ermap :
+    -- "7-9 spaces, or a cylinder d1 in 01..L and `0`"
+    (ermap 73 "   " "   " ≡ 0)
+    × (ermap 73 "010" "   " ≡ 0)
+    × (ermap 73 "730" "   " ≡ 0)
+    × (ermap 73 "740" "   " ≡ 7)
+    × (ermap 73 "000" "   " ≡ 7)
+    × (ermap 73 "051" "   " ≡ 7)
+    × (ermap 73 "5 0" "   " ≡ 7)
+    -- "11-13 spaces, or d2 and `0`, where d1 is present and d1 < d2 ≤ L+1"
+    × (ermap 73 "010" "020" ≡ 0)
+    × (ermap 73 "730" "740" ≡ 0)
+    × (ermap 73 "730" "750" ≡ 11)
+    × (ermap 73 "   " "050" ≡ 11)
+    × (ermap 73 "050" "050" ≡ 11)
+    × (ermap 73 "110" "100" ≡ 11)
+    × (ermap 73 "050" "000" ≡ 11)
+    -- "the lowest first"
+    × (ermap 73 "000" "000" ≡ 7)
+    × (ermap 1 "010" "020" ≡ 0)
+unfolding oneOf same every isDigit digitValue numberFrom lowestFault ermapRule7 ermapRule11 ermapRules
+edges-ermap =
+    (refl, refl, refl, refl, refl, refl, refl, refl, refl, refl, refl, refl, refl, refl, refl, refl)
+
+-- Request 2026-03. A volume with these defective cylinders, 0 for none
+abbrev defects : ℕ → ℕ → Geometry
+defects d1 d2 = record { L = 73; I = 8; D = 8; k = 0; P = 128; S = 1; d1 = d1; d2 = d2 }
+
+pub edges-walk :
+    -- examples 4 and 5, by "the code walks cylinders counting good ones"
+    (map (walked (defects 10 11)) (9 ∷ 10 ∷ []) ≡ 9 ∷ 12 ∷ [])
+    × (map (walked (defects 73 74)) (72 ∷ 73 ∷ []) ≡ 72 ∷ 75 ∷ [])
+    -- none; the first; the first two; one good one between them
+    × (map (walked (defects 0 0)) (1 ∷ 2 ∷ 73 ∷ []) ≡ 1 ∷ 2 ∷ 73 ∷ [])
+    × (map (walked (defects 1 0)) (1 ∷ 2 ∷ []) ≡ 2 ∷ 3 ∷ [])
+    × (map (walked (defects 1 2)) (1 ∷ 2 ∷ []) ≡ 3 ∷ 4 ∷ [])
+    × (map (walked (defects 10 12)) (9 ∷ 10 ∷ 11 ∷ []) ≡ 9 ∷ 11 ∷ 13 ∷ [])
+    -- a defective one does not count
+    × (map (goodUpTo (defects 10 11)) (0 ∷ 1 ∷ 9 ∷ 10 ∷ 11 ∷ 12 ∷ []) ≡ 0 ∷ 1 ∷ 9 ∷ 9 ∷ 9 ∷ 10 ∷ [])
+unfolding goodCylinder goodUpTo walkOn walked
+edges-walk = (refl, refl, refl, refl, refl, refl, refl)
+
+pub edges-part :
+    -- "d1 < d2": with one cylinder named twice, or the two exchanged, the walk and the two comparisons part. ERMAP lets neither pass (`edges-ermap`, 11).
+    ((walked (defects 5 5) 5 ≡ 6) × (physical (defects 5 5) 5 ≡ 7))
+    × ((walked (defects 11 10) 10 ≡ 12) × (physical (defects 11 10) 10 ≡ 11))
+unfolding skipOne physical goodCylinder walkOn walked
+edges-part = ((refl, refl), (refl, refl))
 
 -- HDR1 of a file from 02001 to 03008 with the data end at its start: format, level, B, R, U and position 63 as given
 abbrev label : String → String → String → String → String → String → List ℕ

@@ -17,6 +17,10 @@ test_misused_words() {
   misused 'no such option: --force'
   ends 2 judge -o x demo.img
   misused 'no such option: -o'
+  ends 2 cylinders
+  misused 'an operand is missing'
+  ends 2 cylinders demo.img 5
+  misused 'one operand too many: 5'
   ends 2 read demo.img
   misused 'an operand is missing'
   ends 2 read --slot 3 demo.img LOG

@@ -1,4 +1,4 @@
-# judge and list, the help texts, and the example.
+# judge, cylinders and list, the help texts, and the example.
 
 test_client() {
   fresh
@@ -19,11 +19,11 @@ test_client() {
 
 test_help() {
   ends 0 --version
-  prints 'galz 1.1 (GOST 28081-89)'
+  prints 'galz 1.2 (GOST 28081-89)'
   ends 0 --help
   says
   cp "$scratch/out" "$scratch/help"
-  for command in judge list read salvage write create delete extract-all; do
+  for command in judge cylinders list read salvage write create delete extract-all; do
     ends 0 "$command" --help
     says
     holds "the help of $command is a part of all help" [ "$(head -n 1 "$scratch/out")" = "$(grep -m 1 "^galz $command" "$scratch/help")" ]
@@ -62,6 +62,51 @@ test_judge() {
   ends 0 judge -
   holds 'an image from standard input is judged' grep -qx 'free 16' "$scratch/out"
   input=/dev/null
+}
+
+# L D1 D2: by a walk that counts good cylinders, the line of each data cylinder: c; where the c-th good one is if d1 alone is skipped; where it is
+walk_of() {
+  awk -v l="$1" -v d1="$2" -v d2="$3" 'BEGIN {
+    for (c = 1; c <= l; c++) {
+      do q++; while (q == d1)
+      do n++; while (n == d1 || n == d2)
+      print c "|" q "|" n
+    }
+  }'
+}
+
+# L D1 D2: the lines are those of the walk, and each record of the file over all data cylinders begins with the number of the cylinder that it stands on
+skips_as_walked() {
+  sample "defects-$1-$2-$3"
+  walk_of "$1" "$2" "$3" >walk
+  ends 0 cylinders "defects-$1-$2-$3.img"
+  same "$scratch/out" walk
+  says
+  ends 0 read "defects-$1-$2-$3.img" CYLINDERS
+  cut -c 1-2 "$scratch/out" | uniq >read
+  same read <(awk -F '|' '{ printf "%02d\n", $3 }' walk)
+}
+
+test_cylinders() {
+  local d1 d2
+  fresh
+  for d1 in 0 1 2 3 4 5; do
+    skips_as_walked 5 "$d1" 0
+    [ "$d1" = 0 ] || for ((d2 = d1 + 1; d2 <= 6; d2++)); do skips_as_walked 5 "$d1" "$d2"; done
+  done
+  skips_as_walked 1 1 2
+  skips_as_walked 96 96 97
+  # "4. d1=10, d2=11: cylinder 9 is 9, 10 is 12." "5. L=73, d1=73, d2=74: 72 is 72, 73 is 75."
+  skips_as_walked 73 10 11
+  holds 'example 4' cmp -s <(sed -n '9,10p' walk) <(lines '9|9|9' '10|11|12')
+  sample defects-12-10-11
+  same defects-12-10-11.img "$top/samples/defects.img"
+  skips_as_walked 73 73 74
+  holds 'example 5' cmp -s <(sed -n '72,$p' walk) <(lines '72|72|72' '73|74|75')
+  "${front[@]}" "$folder/cylinders" >"$scratch/out" 2>"$scratch/err"
+  status=$?
+  holds "galz_physical of every L, pair and cylinder: $(cat "$scratch/out")" [ "$status" -eq 0 ]
+  holds 'all of them' grep -qx '13356632 cylinders compared' "$scratch/out"
 }
 
 test_list() {
@@ -108,7 +153,7 @@ test_images() {
   truncate -s 2G largest.img
   ends 1 judge largest.img
   says 'galz: refused 5: the image does not have the length that VOL1 says'
-  for command in judge list; do
+  for command in judge cylinders list; do
     ends 2 "$command" none.img
     prints
     says 'galz: none.img: No such file or directory'

@@ -1,6 +1,6 @@
--- `skip_one` meets its contract: present and not behind, behind, absent.
+-- `skip_one` meets its contract: its test is the sentence's.
 -- Assumes nothing.
-use Rattle.layout.proofs.Laws.{skip-yes, skip-absent, skip-above}
+use Rattle.layout.proofs.Laws.{skip-taken, skip-left}
 use native.Mathlib.Omega.{arith}
 use borrow.Author.Needs.{needs}
 use Rattle.layout.proofs.skip_one.Statement.{statement}
@@ -10,13 +10,10 @@ add-result : tie.Need-add-result
 add-result c = search needs
 
 returns : tie.Need-returns
-returns c = (skip-yes _ _ (omega arith) (omega arith), omega arith, omega arith)
+returns c = (skip-taken _ _ (c .if1 .taken), omega arith, omega arith)
 
 returns-2 : tie.Need-returns-2
-returns-2 c = (skip-above _ _ (omega arith), omega arith, omega arith)
-
-returns-3 : tie.Need-returns-3
-returns-3 c = (skip-absent _ _ (omega arith), omega arith, omega arith)
+returns-2 c = (skip-left _ _ (c .if1 .left), omega arith, omega arith)
 
 pub skip-one-spec : {M : Type 1} → statement M
-skip-one-spec = tie.close (tie.spec add-result returns returns-2 returns-3)
+skip-one-spec = tie.close (tie.spec add-result returns returns-2)

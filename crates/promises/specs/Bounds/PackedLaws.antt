@@ -36,8 +36,8 @@ use Rattle.standard.specs.declared.Answer.the-variants.{Unanswered, Record as R
 use Rattle.standard.specs.declared.Written.{Written}
 use Rattle.standard.specs.declared.Written.the-variants.{Unwritten, Blocks}
 use Rattle.promises.specs.Images.AddressLaws.{address-eq}
-use Rattle.promises.specs.Volumes.VolumeNumbers.{numbers-of}
-use Rattle.promises.specs.Bounds.Sizes.{Small, volume-small, find-small, count-small, free-small, defects-low, find-low, count-few, free-low}
+use Rattle.promises.specs.Volumes.VolumeNumbers.{numbers-of, defects-of}
+use Rattle.promises.specs.Bounds.Sizes.{Small, volume-small, find-small, count-small, free-small, find-low, count-few, free-low}
 use Rattle.promises.specs.Bounds.ReadingSizes.{PlaceSmall, AnswerSmall, reading-small}
 use Rattle.promises.specs.Bounds.WritingSizes.{capped, most-low, write-small, write-few}
 use Rattle.promises.specs.Bounds.MadeSizes.{create-small, create-low, delete-small, delete-few}
@@ -168,15 +168,15 @@ record Room (g : Geometry) : Type 0 where
 volume-room : (image : List ℕ) (g : Geometry) → judged image ≡ Volume g → Room g
 volume-room image g j =
     let n = numbers-of image g j in
-    let d = defects-low image g j in
+    let d = defects-of image g j in
     record {
       cylinders = omega (arith, n .cylinders);
       index = omega (arith, n .index-high);
       sectors = omega (arith, n .sectors);
       size = omega (arith, n .kind-high);
       sides = omega (arith, n .side-high);
-      first-defect = omega (arith, d .0, n .cylinders);
-      second-defect = omega (arith, d .1, n .cylinders);
+      first-defect = omega (arith, d .first-high, n .cylinders);
+      second-defect = omega (arith, d .second-high, n .cylinders);
     }
 
 abbrev geometryOf : ℕ → ℕ → ℕ → ℕ → ℕ → ℕ → ℕ → ℕ → Geometry
@@ -329,6 +329,10 @@ module _ (image : List ℕ) where
       on (Volume g) j =
           let m = volume-room image g j in
           rw (volume-code g m) (ap Volume (volume-back g m (numbers-of image g j .size-is)))
+
+  -- of an accepted volume its numbers
+  pub numbers-exact : (g : Geometry) → judged image ≡ Volume g → geometryBack (packedJudged (judged image)) ≡ g
+  numbers-exact g j = ap (λ (v : Judged). geometryBack (packedJudged v)) j ∙ volume-back g (volume-room image g j) (numbers-of image g j .size-is)
 
   pub find-exact : (name : List ℕ) → foundBack (packedFound (found image name)) ≡ found image name
   find-exact name = on (found image name) refl

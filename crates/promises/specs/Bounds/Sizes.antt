@@ -2,23 +2,22 @@
 -- Assumes nothing.
 use Prim.Native.Nat.{ℕ, suc, _+_, _-_, _*_, _^_, _<_, _≤_}
 use mathlib.Core.Path.{_≡_, refl, sym, subst}
-use mathlib.Core.Bool.{Bool, true, false, cond, not, _&&_, _||_}
+use mathlib.Core.Bool.{Bool, true, false, cond, not, _&&_}
 use mathlib.Core.List.{List, [], _∷_}
 use lib.ListN.{length}
-use lib.Dec.{leb, ltb, eqb}
+use lib.Dec.{ltb, eqb}
 use native.Mathlib.Omega.{arith}
 use native.Mathlib.Nat.{mul-le-mul-right, mul-le-mul-left}
-use borrow.Author.Tests.{ltb-true, leb-true, lt-ltb, not-false}
+use borrow.Author.Tests.{ltb-true, lt-ltb, not-false}
 use Rattle.standard.specs.Layout.{sectorCount, indexSectors, slotCount, slotOrdinal, kindOffset, bodyOffset, labelOffset, labelAt, vol1Of, ermapOf}
-use Rattle.standard.specs.Characters.{field, between, spaces}
 use Rattle.standard.specs.Rules.{Row, lowestFault}
 use Rattle.standard.specs.Volume.{vol1Rules}
-use Rattle.standard.specs.Defects.{ermapRule7, ermapRule11, ermapRules, defect1, defect2, isCylinder, cylinderIn}
+use Rattle.standard.specs.Defects.{ermapRules}
 use Rattle.standard.specs.Addresses.{addressCount, ordinal}
 use Rattle.standard.specs.Labels.{endOf, hdr1Rules, labelFault}
 use Rattle.standard.specs.Slots.{hasLabel, slotRefusal}
 use Rattle.standard.specs.Refusals.{refuse, refuseAt, given-when, inOrder}
-use Rattle.standard.specs.Judgement.{numbersIn, volumeOf, volumeList, refusal1, refusal2, refusal3, refusal6, refusal7, refusal8to10, refusal11, refusal12, clashesFrom, shares, namesake, judged}
+use Rattle.standard.specs.Judgement.{volumeOf, volumeList, refusal1, refusal2, refusal3, refusal6, refusal7, refusal8to10, refusal11, refusal12, clashesFrom, shares, namesake, judged}
 use Rattle.standard.specs.Finding.{found}
 use Rattle.standard.specs.Free.{freeRecords, freeCount}
 use Rattle.standard.specs.Files.{extent, extentSize, isDefective, goodAmong, goodRecords, blockCount, refusal13, refusal17, countList, countOr, countRefusal, counted, openRefusal}
@@ -35,9 +34,9 @@ use Rattle.promises.specs.Ground.Basics.{and-l, and-r, cond-elim, never}
 use Rattle.promises.specs.Ground.Lists.{Every, every-right}
 use Rattle.promises.specs.Images.AddressLaws.{Legal, rank-lt}
 use Rattle.promises.specs.Images.Tiling.{address-inside}
-use Rattle.promises.specs.Volumes.Judging.{order-each, not-given, rows-each, accepted}
+use Rattle.promises.specs.Volumes.Judging.{order-each, not-given}
 use Rattle.promises.specs.Volumes.AcceptedLaws.{has-slot, label-in-range}
-use Rattle.promises.specs.Volumes.VolumeNumbers.{Numbers, of-rules, vol1-right, numbers-of, ermap-right, slot-in-index}
+use Rattle.promises.specs.Volumes.VolumeNumbers.{Numbers, of-rules, vol1-right, numbers-of, slot-in-index}
 use Rattle.promises.specs.Extents.ExtentAddresses.{extent-legal}
 use Rattle.promises.specs.Extents.FullBlocks.{count-held, records-one}
 use Rattle.promises.specs.Refusals.Refusing.{first-order, volume-first, volume-stops, count-first}
@@ -63,34 +62,6 @@ sectors-few g n =
     let tracks : (g .L + 3) * g .S ≤ 198 = omega (arith, mul-le-mul-left (g .L + 3) (n .side-high), n .cylinders) in
     let others : (g .L + 3) * g .S * g .D ≤ 5148 = omega (arith, mul-le-mul-right (g .D) tracks, n .sectors) in
     omega arith
-
--- "a cylinder d1 in 01..L", "d1 < d2 ≤ L+1"
-first-defect : (L : ℕ) (e : List ℕ) → ermapRule7 L e ≡ true → defect1 e ≤ L
-unfolding ermapRule7
-first-defect L e h = go (spaces (field e 7 9)) h
-  where
-    go : (t : Bool) → (t || (isCylinder (field e 7 9) && between 1 L (cylinderIn (field e 7 9)))) ≡ true → cond t 0 (cylinderIn (field e 7 9)) ≤ L
-    go true k = omega arith
-    go false k =
-        let b = and-r (isCylinder (field e 7 9)) _ k in
-        leb-true (cylinderIn (field e 7 9)) L (and-r (leb 1 (cylinderIn (field e 7 9))) _ b)
-
-second-defect : (L : ℕ) (e : List ℕ) → ermapRule11 L e ≡ true → defect2 e ≤ L + 1
-unfolding ermapRule11
-second-defect L e h = go (spaces (field e 11 13)) h
-  where
-    go : (t : Bool)
-        → (t || (isCylinder (field e 11 13) && not (spaces (field e 7 9)) && ltb (cylinderIn (field e 7 9)) (cylinderIn (field e 11 13)) && leb (cylinderIn (field e 11 13)) (L + 1))) ≡ true
-        → cond t 0 (cylinderIn (field e 11 13)) ≤ L + 1
-    go true k = omega arith
-    go false k = leb-true (cylinderIn (field e 11 13)) (L + 1) (and-r (isCylinder (field e 11 13) && not (spaces (field e 7 9)) && ltb (cylinderIn (field e 7 9)) (cylinderIn (field e 11 13))) _ k)
-
-pub defects-low : (image : List ℕ) (g : Geometry) → judged image ≡ Volume g → (g .d1 ≤ g .L) × (g .d2 ≤ g .L + 1)
-unfolding ermapRules numbersIn
-defects-low image g j =
-    let e = ermapOf image in
-    let (r1, (r7, (r11, _))) = rows-each _ (ermap-right image g j) refl in
-    subst (λ (x : Geometry). (x .d1 ≤ g .L) × (x .d2 ≤ g .L + 1)) (accepted image g j .numbers) (first-defect (g .L) e r7, second-defect (g .L) e r11)
 
 -- ---- the blocks of a file, and the free records
 pub addresses-few : (g : Geometry) → Numbers g → addressCount g ≤ 4992

@@ -3,19 +3,18 @@
 use Prim.Native.Nat.{ℕ, suc, _+_, _-_, _*_, _/_, _%_, _<_, _≤_}
 use mathlib.Core.Path.{_≡_, refl, sym, ap, _∙_}
 use mathlib.Core.Bool.{Bool, true, false, cond, _&&_}
-use mathlib.Core.Logic.{_⊎_, inl, inr}
 use lib.Dec.{leb, ltb}
 use lib.Arith.{digits-div, digits-mod}
 use native.Mathlib.Omega.{arith}
 use native.Mathlib.Nat.{eq-or-lt-of-le, mul-le-mul-right, mod-lt, div-add-mod', div-lt-iff-lt-mul}
-use borrow.Author.Tests.{ltb-true, ltb-false, leb-true, lt-ltb, le-leb, ne-eqb}
+use borrow.Author.Tests.{ltb-true, ltb-false, leb-true, lt-ltb, le-ltb, le-leb, lt-leb, ne-eqb}
 use Rattle.standard.specs.Characters.{between}
 use Rattle.standard.specs.Layout.{ordinalAt, indexSectors}
 use Rattle.standard.specs.Defects.{present, skipOne, physical}
 use Rattle.standard.specs.Addresses.{legal, rank, addressOf, addressCount, stepped, ordinal}
 use Rattle.standard.specs.declared.Geometry.{Geometry}
 use Rattle.standard.specs.declared.Address.{Address}
-use Rattle.promises.specs.Ground.Basics.{either, lt-or-le, cond-elim, true-not-false, and-l, and-r}
+use Rattle.promises.specs.Ground.Basics.{either, lt-or-le, by-test, and-l, and-r}
 
 -- numbers written in two mixed digits
 pub mixed-lt : (x s y L S D : ℕ) → x < L → s < S → y < D → (x * S + s) * D + y < L * S * D
@@ -74,57 +73,57 @@ rank-lt g a h =
     let p = parts g a h in
     mixed-lt (a .cylinder - 1) (a .side) (a .sector - 1) (g .L) (g .S) (g .D) (omega arith) (p .side-low) (omega arith)
 
--- the skip of defective cylinders keeps the order
-abbrev skips : ℕ → ℕ → Bool
-skips d c = present d && leb d c
+-- ---- one defective cylinder d, 0 where there is none: where a number n is to it
+-- how many cylinders up to n it takes away: 1 "if d is present and d ≤ n"
+abbrev pub taken : ℕ → ℕ → ℕ
+taken d n = cond (present d && leb d n) 1 0
 
-skip-later : (d c c′ : ℕ) → c < c′ → skips d c ≡ true → skips d c′ ≡ true
-skip-later d c c′ l h =
-    let q = le-leb d c′ (omega (arith, leb-true d c (and-r (present d) _ h))) in
-    simp (and-l (present d) _ h, q)
+pub taken-none : (d n : ℕ) → d ≤ 0 → taken d n ≡ 0
+taken-none d n h = simp (le-ltb 0 d h)
 
-pub skip-strict : (d c c′ : ℕ) → c < c′ → skipOne d c < skipOne d c′
+pub taken-not : (d n : ℕ) → n < d → taken d n ≡ 0
+taken-not d n h = simp (lt-ltb 0 d (omega arith), lt-leb d n h)
+
+pub taken-one : (d n : ℕ) → 0 < d → d ≤ n → taken d n ≡ 1
+taken-one d n h l = simp (lt-ltb 0 d h, le-leb d n l)
+
+-- there is none; it is above n; it is not
+pub by-place : {C : Type 0} (d n : ℕ) → (taken d n ≡ 0 → d ≤ 0 → C) → (taken d n ≡ 0 → n < d → C) → (taken d n ≡ 1 → 0 < d → d ≤ n → C) → C
+by-place d n none above below =
+    either (lt-or-le 0 d)
+    (λ (h : 0 < d). either (lt-or-le n d) (λ (l : n < d). above (taken-not d n l) l) (λ (r : d ≤ n). below (taken-one d n h r) h r))
+    (λ (z : d ≤ 0). none (taken-none d n z) z)
+
+pub skip-adds : (d n : ℕ) → skipOne d n ≡ n + taken d n
 unfolding skipOne
-skip-strict d c c′ l = go (skips d c) (skips d c′) refl refl
-  where
-    go : (t t′ : Bool) → skips d c ≡ t → skips d c′ ≡ t′ → cond t (c + 1) c < cond t′ (c′ + 1) c′
-    go true true e e′ = omega arith
-    go true false e e′ = absurd (true-not-false (skips d c′) (skip-later d c c′ l e) e′)
-    go false true e e′ = omega arith
-    go false false e e′ = omega arith
+skip-adds d n = by-test (present d && leb d n) (λ e. rw e (omega arith)) (λ e. rw e (omega arith))
+
+-- the skip of defective cylinders keeps the order
+pub skip-strict : (d c c′ : ℕ) → c < c′ → skipOne d c < skipOne d c′
+skip-strict d c c′ l =
+    let e = skip-adds d c in
+    let e′ = skip-adds d c′ in
+    by-place d c (λ z none. omega arith) (λ z above. omega arith) (λ one h below. omega (arith, taken-one d c′ h (omega arith)))
 
 pub skip-low : (d c : ℕ) → c ≤ skipOne d c
-unfolding skipOne
-skip-low d c = cond-elim (λ n. c ≤ n) (skips d c) (λ _. omega arith) (λ _. omega arith)
+skip-low d c = omega (arith, skip-adds d c)
 
 pub skip-high : (d c : ℕ) → skipOne d c ≤ c + 1
-unfolding skipOne
-skip-high d c = cond-elim (λ n. n ≤ c + 1) (skips d c) (λ _. omega arith) (λ _. omega arith)
+skip-high d c = let e = skip-adds d c in by-place d c (λ z none. omega arith) (λ z above. omega arith) (λ one h below. omega arith)
 
--- "data skip them": a cylinder moves by one where the defective one is present and not behind it, and none moves onto it
-skip-moves : (d c : ℕ) → (skipOne d c ≡ c) ⊎ ((skipOne d c ≡ c + 1) × (0 < d) × (d ≤ c))
-unfolding skipOne
-skip-moves d c = go (skips d c) refl
-  where
-    go : (t : Bool) → skips d c ≡ t → (cond t (c + 1) c ≡ c) ⊎ ((cond t (c + 1) c ≡ c + 1) × (0 < d) × (d ≤ c))
-    go true e = inr (refl, ltb-true 0 d (and-l (present d) _ e), leb-true d c (and-r (present d) _ e))
-    go false e = inl refl
-
+-- "data skip them": none moves onto a defective one
 skip-onto : (d c : ℕ) → 0 < d → skipOne d c ≡ d → ⊥
-unfolding skipOne
-skip-onto d c h q = go (skips d c) refl q
-  where
-    go : (t : Bool) → skips d c ≡ t → cond t (c + 1) c ≡ d → ⊥
-    go true e k = omega (arith, leb-true d c (and-r (present d) _ e))
-    go false e k = true-not-false (skips d c) (simp (lt-ltb 0 d h, le-leb d c (omega arith))) e
+skip-onto d c h q = let e = skip-adds d c in by-place d c (λ z none. omega arith) (λ z above. omega arith) (λ one p below. omega arith)
 
 pub skips-first : (g : Geometry) (c : ℕ) → (0 < g .d2 → g .d1 < g .d2) → 0 < g .d1 → physical g c ≡ g .d1 → ⊥
 unfolding physical
 skips-first g c later h e =
     let q = skipOne (g .d1) c in
-    either (skip-moves (g .d2) q)
-    (λ (stays : skipOne (g .d2) q ≡ q). skip-onto (g .d1) c h (omega arith))
-    (λ (moves : (skipOne (g .d2) q ≡ q + 1) × (0 < g .d2) × (g .d2 ≤ q)). omega (arith, later (moves .1), moves .0, moves .2))
+    let f = skip-adds (g .d2) q in
+    by-place (g .d2) q
+    (λ z none. skip-onto (g .d1) c h (omega arith))
+    (λ z above. skip-onto (g .d1) c h (omega arith))
+    (λ one p below. omega (arith, later p))
 
 pub skips-second : (g : Geometry) (c : ℕ) → 0 < g .d2 → physical g c ≡ g .d2 → ⊥
 unfolding physical
@@ -148,13 +147,35 @@ physical-inj g c c′ e =
     (λ (l : c < c′). absurd (omega (arith, physical-strict g c c′ l)))
     (λ (r : c′ ≤ c). either (eq-or-lt-of-le r) (λ (q : c′ ≡ c). sym q) (λ (l : c′ < c). absurd (omega (arith, physical-strict g c′ c l))))
 
+-- the ordinal of a sector behind the index cylinder
+pub ordinal-at : (g : Geometry) (c s n : ℕ) → 1 ≤ c → ordinalAt g c s n ≡ g .S * g .I + ((c - 1) * g .S + s) * g .D + (n - 1)
+unfolding ordinalAt
+ordinal-at g c s n h = simp (ne-eqb c 0 (λ (z : c ≡ 0). omega arith))
+
+-- a side and a sector on it that a cylinder has
+pub record On (g : Geometry) (s n : ℕ) : Type 0 where
+  pub side : s < g .S
+  pub low : 1 ≤ n
+  pub high : n ≤ g .D
+
+-- BEHIND THE INDEX CYLINDER EACH SECTOR HAS ITS OWN ORDINAL
+pub sector-inj : (g : Geometry) (c c′ s s′ n n′ : ℕ) → 1 ≤ c → 1 ≤ c′ → On g s n → On g s′ n′ → ordinalAt g c s n ≡ ordinalAt g c′ s′ n′
+    → (c ≡ c′) × (s ≡ s′) × (n ≡ n′)
+sector-inj g c c′ s s′ n n′ h h′ o o′ e =
+    let f = sym (ordinal-at g c s n h) ∙ (e ∙ ordinal-at g c′ s′ n′ h′) in
+    let f′ : ((c - 1) * g .S + s) * g .D + (n - 1) ≡ ((c′ - 1) * g .S + s′) * g .D + (n′ - 1) = omega (arith, f) in
+    let t = digit-inj ((c - 1) * g .S + s) ((c′ - 1) * g .S + s′) (n - 1) (n′ - 1) (g .D) (omega (arith, o)) (omega (arith, o′)) f′ in
+    let q = digit-inj (c - 1) (c′ - 1) s s′ (g .S) (o .side) (o′ .side) t in
+    (omega (arith, q), omega (arith, t, ap (λ (x : ℕ). x * g .S) q), omega (arith, o, o′, f′, ap (λ (x : ℕ). x * g .D) t))
+
 -- the ordinal of a data address
 pub ordinal-is : (g : Geometry) (a : Address) → legal g a ≡ true
     → ordinal g a ≡ g .S * g .I + ((physical g (a .cylinder) - 1) * g .S + a .side) * g .D + (a .sector - 1)
-unfolding ordinal ordinalAt
-ordinal-is g a h =
-    let p = parts g a h in
-    simp (ne-eqb (physical g (a .cylinder)) 0 (λ (z : physical g (a .cylinder) ≡ 0). omega (arith, physical-low g (a .cylinder))))
+unfolding ordinal
+ordinal-is g a h = ordinal-at g (physical g (a .cylinder)) (a .side) (a .sector) (omega (arith, physical-low g (a .cylinder), parts g a h .cylinder-low))
+
+pub on-legal : (g : Geometry) (a : Address) → legal g a ≡ true → On g (a .side) (a .sector)
+on-legal g a h = let p = parts g a h in record { side = p .side-low; low = p .sector-low; high = p .sector-high }
 
 -- A DATA ADDRESS IS IN A SECTOR OF THE IMAGE BEHIND THE INDEX CYLINDER, and not in the last cylinder
 pub ordinal-lt : (g : Geometry) (a : Address) → legal g a ≡ true → ordinal g a < indexSectors g + (g .L + 2) * g .S * g .D
@@ -178,19 +199,14 @@ address-eq a b c s n = same-address (a .cylinder) (b .cylinder) (a .side) (b .si
 
 -- TWO DATA ADDRESSES ARE IN TWO SECTORS
 pub ordinal-inj : (g : Geometry) (a b : Address) → legal g a ≡ true → legal g b ≡ true → ordinal g a ≡ ordinal g b → a ≡ b
+unfolding ordinal
 ordinal-inj g a b ha hb e =
-    let p = parts g a ha in
-    let q = parts g b hb in
-    let pa = physical g (a .cylinder) - 1 in
-    let pb = physical g (b .cylinder) - 1 in
-    let f = sym (ordinal-is g a ha) ∙ (e ∙ ordinal-is g b hb) in
-    let f′ : (pa * g .S + a .side) * g .D + (a .sector - 1) ≡ (pb * g .S + b .side) * g .D + (b .sector - 1) = omega (arith, f) in
-    let t = digit-inj (pa * g .S + a .side) (pb * g .S + b .side) (a .sector - 1) (b .sector - 1) (g .D) (omega arith) (omega arith) f′ in
-    let c = digit-inj pa pb (a .side) (b .side) (g .S) (p .side-low) (q .side-low) t in
-    let cyl = physical-inj g (a .cylinder) (b .cylinder) (omega (arith, c, physical-low g (a .cylinder), physical-low g (b .cylinder))) in
-    let sd : a .side ≡ b .side = omega (arith, t, ap (λ (x : ℕ). x * g .S) c) in
-    let sc : a .sector ≡ b .sector = omega (arith, f′, ap (λ (x : ℕ). x * g .D) t) in
-    address-eq a b cyl sd sc
+    let ca = a .cylinder in
+    let cb = b .cylinder in
+    let (c, s, n) = sector-inj g (physical g ca) (physical g cb) _ _ _ _
+    (omega (arith, physical-low g ca, parts g a ha .cylinder-low)) (omega (arith, physical-low g cb, parts g b hb .cylinder-low))
+    (on-legal g a ha) (on-legal g b hb) e in
+    address-eq a b (physical-inj g ca cb c) s n
 
 -- the step: to the next sector, the next side, or the next cylinder
 pub data Step (g : Geometry) (a : Address) : Address → Type 0 where

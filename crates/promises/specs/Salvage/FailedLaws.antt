@@ -192,5 +192,5 @@ pub elsewhere-same : (image image′ : List ℕ) (g : Geometry) (slot : ℕ) (hi
 unfolding SameForFile AgreeOn
 elsewhere-same image image′ g slot hit fail index apart = (
   index-agrees g hit image image′ fail index,
-  λ n l. by-test (hit n) (λ t. absurd (true-not-false (sectorOf g (extent g (labelAt g image slot)) n) l (apart n t))) (fail .others n),
+  λ _ n l. by-test (hit n) (λ t. absurd (true-not-false (sectorOf g (extent g (labelAt g image slot)) n) l (apart n t))) (fail .others n),
 )

@@ -10,10 +10,10 @@ use native.Mathlib.Omega.{arith}
 use native.Mathlib.Nat.{one-le-pow, mul-le-mul, mul-le-mul-right, pow-le-pow-right}
 use borrow.Author.Tests.{ltb-false, leb-true, eqb-true, ltb-true}
 use Rattle.standard.specs.Layout.{sectorCount, indexSectors, imageLength, slotCount, slotOrdinal, labelOffset, vol1Of, ermapOf}
-use Rattle.standard.specs.Characters.{bytes, oneOf, at, isSpace, field, hexDigits, hex, spaces, digitValue}
+use Rattle.standard.specs.Characters.{bytes, oneOf, at, isSpace, field, between, hexDigits, hex, spaces, digitValue}
 use Rattle.standard.specs.Volume.{hexBetween, vol1Rules, volumeK}
 use Rattle.standard.specs.Judgement.{numbersIn, volumeOf, refusal3, judged}
-use Rattle.standard.specs.Defects.{ermapRule11, ermapRules, defect1, defect2, isCylinder, cylinderIn}
+use Rattle.standard.specs.Defects.{ermapRule7, ermapRule11, ermapRules, defect1, defect2, isCylinder, cylinderIn}
 use Rattle.standard.specs.Rules.{lowestFault}
 use Rattle.standard.specs.declared.Geometry.{Geometry}
 use Rattle.standard.specs.declared.Checked.the-variants.{Passed}
@@ -87,19 +87,47 @@ numbers-of image g j =
     let a = accepted image g j in
     subst Numbers (a .numbers) (of-rules image (vol1-right (vol1Of image) (a .vol1)))
 
--- the second defective cylinder is behind the first
-second-behind : (L : ℕ) (e : List ℕ) → ermapRule11 L e ≡ true → 0 < defect2 e → defect1 e < defect2 e
-unfolding ermapRule11
-second-behind L e h p = go (spaces (field e 11 13)) (spaces (field e 7 9)) h p
+-- THE PAIRS OF DEFECTIVE CYLINDERS THAT ERMAP LETS PASS: none, d1 alone, or both in order. 0 stands for one that is absent.
+-- "7-9 spaces, or a cylinder d1 in 01..L and `0`; 11-13 spaces, or d2 and `0`, where d1 is present and d1 < d2 ≤ L+1."
+pub record Pair (L d1 d2 : ℕ) : Type 0 where
+  pub first-high : d1 ≤ L
+  pub second-high : d2 ≤ L + 1
+  pub first-there : 0 < d2 → 0 < d1
+  pub in-order : 0 < d2 → d1 < d2
+
+of-fields : (L : ℕ) (e : List ℕ) → ermapRule7 L e ≡ true → ermapRule11 L e ≡ true → Pair L (defect1 e) (defect2 e)
+unfolding ermapRule7 ermapRule11
+of-fields L e h7 h11 = go (spaces (field e 7 9)) (spaces (field e 11 13)) h7 h11
   where
-    go : (t u : Bool)
-        → (t || (isCylinder (field e 11 13) && not u && ltb (cylinderIn (field e 7 9)) (cylinderIn (field e 11 13)) && leb (cylinderIn (field e 11 13)) (L + 1))) ≡ true
-        → 0 < cond t 0 (cylinderIn (field e 11 13)) → cond u 0 (cylinderIn (field e 7 9)) < cond t 0 (cylinderIn (field e 11 13))
-    go true u k l = absurd (omega arith)
-    go false true k l = let no : false ≡ true = search (and-l, and-r) depth 9 in absurd (true-not-false false no refl)
-    go false false k l =
-        let lower : ltb (cylinderIn (field e 7 9)) (cylinderIn (field e 11 13)) ≡ true = search (and-l, and-r) depth 9 in
-        ltb-true (cylinderIn (field e 7 9)) (cylinderIn (field e 11 13)) lower
+    first : ℕ
+    first = cylinderIn (field e 7 9)
+
+    second : ℕ
+    second = cylinderIn (field e 11 13)
+
+    go : (t u : Bool) → (t || (isCylinder (field e 7 9) && between 1 L first)) ≡ true
+        → (u || (isCylinder (field e 11 13) && not t && ltb first second && leb second (L + 1))) ≡ true → Pair L (cond t 0 first) (cond u 0 second)
+    go true true a b =
+        record { first-high = omega arith; second-high = omega arith; first-there = λ z. absurd (omega arith); in-order = λ z. absurd (omega arith) }
+    go true false a b = let no : false ≡ true = search (and-l, and-r) depth 9 in absurd (true-not-false false no refl)
+    go false true a b =
+        let high : leb first L ≡ true = search (and-l, and-r) depth 9 in
+        record { first-high = leb-true first L high; second-high = omega arith; first-there = λ z. absurd (omega arith); in-order = λ z. absurd (omega arith) }
+    go false false a b =
+        let low : leb 1 first ≡ true = search (and-l, and-r) depth 9 in
+        let high : leb first L ≡ true = search (and-l, and-r) depth 9 in
+        let behind : ltb first second ≡ true = search (and-l, and-r) depth 9 in
+        let most : leb second (L + 1) ≡ true = search (and-l, and-r) depth 9 in
+        record {
+          first-high = leb-true first L high;
+          second-high = leb-true second (L + 1) most;
+          first-there = λ _. leb-true 1 first low;
+          in-order = λ _. ltb-true first second behind;
+        }
+
+pub ermap-pair : (L : ℕ) (e : List ℕ) → lowestFault (ermapRules L e) ≡ 0 → Pair L (defect1 e) (defect2 e)
+unfolding ermapRules
+ermap-pair L e z = let (r1, (r7, (r11, _))) = rows-each _ z refl in of-fields L e r7 r11
 
 -- ERMAP of an accepted volume has no fault
 pub ermap-right : (image : List ℕ) (g : Geometry) → judged image ≡ Volume g → lowestFault (ermapRules (g .L) (ermapOf image)) ≡ 0
@@ -108,11 +136,10 @@ ermap-right image g j =
     let n = not-given (ltb 0 (lowestFault (ermapRules (g .L) (ermapOf image)))) _ (a .ermap) in
     omega (arith, ltb-false 0 (lowestFault (ermapRules (g .L) (ermapOf image))) n)
 
-pub defects-in-order : (image : List ℕ) (g : Geometry) → judged image ≡ Volume g → 0 < g .d2 → g .d1 < g .d2
-unfolding ermapRules numbersIn
-defects-in-order image g j =
-    let (r1, (r7, (r11, _))) = rows-each _ (ermap-right image g j) refl in
-    subst (λ (x : Geometry). 0 < x .d2 → x .d1 < x .d2) (accepted image g j .numbers) (second-behind (g .L) (ermapOf image) r11)
+pub defects-of : (image : List ℕ) (g : Geometry) → judged image ≡ Volume g → Pair (g .L) (g .d1) (g .d2)
+unfolding numbersIn
+defects-of image g j =
+    subst (λ (x : Geometry). Pair (g .L) (x .d1) (x .d2)) (accepted image g j .numbers) (ermap-pair (g .L) (ermapOf image) (ermap-right image g j))
 
 pub index-sectors : (g : Geometry) → Numbers g → 8 ≤ indexSectors g
 index-sectors g n = omega (arith, mul-le-mul-right (g .I) (n .side-low), n .index-low)

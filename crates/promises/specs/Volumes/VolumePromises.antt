@@ -23,7 +23,7 @@ use Rattle.promises.specs.Images.Tiling.{address-inside, address-room}
 use Rattle.promises.specs.Volumes.Judging.{accepted}
 use Rattle.promises.specs.Volumes.AcceptedLaws.{image-length, InRange, label-in-range, bounds-extent, labels-apart}
 use Rattle.promises.specs.Extents.ExtentAddresses.{Between, rising-every, extent-rising}
-use Rattle.promises.specs.Volumes.VolumeNumbers.{defects-in-order}
+use Rattle.promises.specs.Volumes.VolumeNumbers.{defects-of}
 
 -- the addresses of an extent are legal, and their ranks are those from its start to its end
 pub in-extent : (g : Geometry) (h : List ℕ) (b : Address) → InRange g h → List·Memᴰ b (extent g h) → (legal g b ≡ true) × (inExtent g h (rank g b) ≡ true)
@@ -52,7 +52,7 @@ extent-in-range image g slot a j h m =
       behind-index = ordinal-ge g a l;
       sector = address-inside g a l;
       bytes = omega (arith, address-room g a l, image-length image g j);
-      not-first-defect = skips-first g (a .cylinder) (defects-in-order image g j);
+      not-first-defect = skips-first g (a .cylinder) (defects-of image g j .in-order);
       not-second-defect = skips-second g (a .cylinder);
     }
 
