@@ -153,7 +153,7 @@ pub fn slot_first(g: Geometry, image: &[u8], slot: u64) -> u64
     byte_of(image, label_offset(g, slot))
 }
 
-// "n, or n+1 if d is present and d ≤ n", of one defective cylinder d, 0 where it is absent.
+// One comparison, of a defective cylinder d, 0 where it is absent, with a number n: n, "or [n]+1 if [d] is present and [d] ≤ [n]".
 fn skip_one(d: u64, n: u64) -> u64
     requires { ⌜ n < 65536 ⌝ }
     ensures { λ r. ⌜ (r ≡ skipOne d n) × (n ≤ r) × (r ≤ n + 1) ⌝ }

@@ -103,6 +103,12 @@ test_cylinders() {
   same defects-12-10-11.img "$top/samples/defects.img"
   skips_as_walked 73 73 74
   holds 'example 5' cmp -s <(sed -n '72,$p' walk) <(lines '72|72|72' '73|74|75')
+  # one cylinder named twice, on which a walk and the two comparisons would part
+  cp "$top/samples/defects.img" broken.img
+  poke broken.img "$(ermap 11)" 100
+  ends 1 cylinders broken.img
+  prints
+  says 'galz: refused 7 (position 11): a rule of the label ERMAP is broken: the second defective cylinder'
   "${front[@]}" "$folder/cylinders" >"$scratch/out" 2>"$scratch/err"
   status=$?
   holds "galz_physical of every L, pair and cylinder: $(cat "$scratch/out")" [ "$status" -eq 0 ]
