@@ -10,9 +10,9 @@ use lib.ListN.{length, take, drop}
 use native.Mathlib.Omega.{arith}
 use Rattle.standard.specs.Characters.{bytes, byte, oneOf, same, at}
 use Rattle.standard.specs.Refusals.{refuse}
-use Rattle.standard.specs.Layout.{ordinalAt, imageLength, vol1Of, indexSectors, labelAt, slotCount, kAt, bodySize, kindOffset, bodyOffset, slotOrdinal, labelOffset, kindAt, bodyAt, validMark}
+use Rattle.standard.specs.Layout.{imageLength, vol1Of, indexSectors, labelAt, slotCount, kAt, bodySize, kindOffset, bodyOffset, slotOrdinal, labelOffset, kindAt, bodyAt, validMark}
 use Rattle.standard.specs.Defects.{skipOne, physical}
-use Rattle.standard.specs.Skips.{StopsAt, walked}
+use Rattle.standard.specs.Skips.{StopsAt, walked, walkedOrdinal}
 use Rattle.standard.specs.Addresses.{ordinal, addressCount, legal, rank}
 use Rattle.standard.specs.Labels.{knownLevel, nameOf}
 use Rattle.standard.specs.Slots.{hasLabel, isLabel}
@@ -96,7 +96,7 @@ module _ (judger : List ℕ → Response Judged) (judges : Meets (contract judge
     pub skips-as-walked : (c : ℕ) → (walked g c ≡ physical g c) × ((n : ℕ) → 1 ≤ c → Exactly (n ≡ physical g c) (StopsAt g c n))
     skips-as-walked c = let p = accepted-pair image g accepted in (skip-is-walk g p c, skip-is-any-walk g p c)
 
-    pub stands-as-walked : (a : Address) → ordinal g a ≡ ordinalAt g (walked g (a .cylinder)) (a .side) (a .sector)
+    pub stands-as-walked : (a : Address) → ordinal g a ≡ walkedOrdinal g a
     stands-as-walked = stands-where-walked image g accepted
 
   -- "Refusals: 3 now names 80 and no longer 79": exactly if neither 1 nor 2 is given, the rules of VOL1's positions below 80 hold, and 80 is not `3`; and these are all

@@ -13,6 +13,7 @@ use native.Mathlib.Omega.{arith}
 use borrow.Author.Tests.{lt-ltb, le-ltb, le-leb}
 use Rattle.standard.specs.Characters.{bytes, field, isDigit, digitValue}
 use Rattle.standard.specs.Layout.{kAt, bodySize, kindOffset, bodyOffset, slotCount, slotOrdinal, labelOffset, labelAt}
+use Rattle.standard.specs.Skips.{walkedOrdinal}
 use Rattle.standard.specs.Addresses.{legal, rank, ordinal, stepped, firstAddress, fiveBytes, addressIn}
 use Rattle.standard.specs.Labels.{startOf, endOf, dataEndOf}
 use Rattle.standard.specs.Judgement.{judged}
@@ -51,6 +52,7 @@ use Rattle.promises.specs.Refusals.Refusing.{Exactly, order-first, first-order,
 use Rattle.promises.specs.Reading.Following.{told, done, following}
 use Rattle.promises.specs.Salvage.Failing.{Failed, Spares, OfBlocks, ReadsWhole}
 use Rattle.promises.specs.Demands.{write-list, write-counts, write-reads-back, write-changes-no-more, writing-past-defects, write-sets, write-stays-accepted, others-stay, finding-stays}
+use Rattle.promises.specs.Requested.{stands-where-walked}
 use Rattle.promises.specs.Instances.{demo, demoVolume, demoBodies, demoLengths, demo-accepted, demo-heard}
 use Rattle.demanded.specs.Calls.{Response, Meets, ByName, InSlot, Given, named, inSlot, ask, give, judge, find, find-slot, free, count, read, write, contract}
 use Rattle.demanded.specs.Called.{alike, answered, refuses-exactly}
@@ -324,6 +326,14 @@ module _ (w : Writer) (meets : Writes w) where
     fills-sectors b i l u =
         ap (λ (s : List ℕ). sectorAt g s (ordinal g (getD good (b * m + i) firstAddress))) left
         ∙ written-sector image g slot bodies lengths accepted passed b i (omega (arith, needs, l)) u
+
+    -- request 2026-03: and they stand where a walk that counts good cylinders leads (`walkedOrdinal`)
+    pub fills-where-walked : (b i : ℕ) → b < n → i < m
+        → let record′ = walkedOrdinal g (getD good (b * m + i) firstAddress) in
+        sectorAt g after record′ ≡ kAt g record′ ∷ filledTo (g .P) (take (g .P) (drop (i * g .P) (getD (packing label bodies lengths .contents) b [])))
+    fills-where-walked b i l u =
+        subst (λ (o : ℕ). sectorAt g after o ≡ kAt g o ∷ filledTo (g .P) (take (g .P) (drop (i * g .P) (getD (packing label bodies lengths .contents) b []))))
+        (stands-where-walked image g accepted (getD good (b * m + i) firstAddress)) (fills-sectors b i l u)
 
     -- ======== THE CARRY OF THE DATA END
     -- "after a write that ends at the last sector of a track, side or cylinder the data end is the next track's first address (or the step past the extent),

@@ -5,8 +5,10 @@ use Prim.Native.Nat.{ℕ, zero, suc, _+_, _-_, _≤_}
 use mathlib.Core.Path.{_≡_}
 use mathlib.Core.Bool.{Bool, true, cond, not, _&&_}
 use lib.Dec.{eqb}
+use Rattle.standard.specs.Layout.{ordinalAt}
 use Rattle.standard.specs.Defects.{present}
 use Rattle.standard.specs.declared.Geometry.{Geometry}
+use Rattle.standard.specs.declared.Address.{Address}
 
 -- "the code walks cylinders counting good ones": a physical cylinder is good if it is neither d1 nor d2
 abbrev pub isDefect : ℕ → ℕ → Bool
@@ -32,3 +34,7 @@ walkOn g (suc most) n left = cond (eqb left 0) n (walkOn g most (suc n) (cond (g
 -- from before cylinder 1 till c good ones are counted; two at most are not good, so it goes over c + 2 at most
 unfoldable pub walked : Geometry → ℕ → ℕ
 walked g c = walkOn g (c + 2) 0 c
+
+-- the ordinal of the sector that has a data address, by the walk (`ordinal`, in Addresses, goes by the two comparisons)
+abbrev pub walkedOrdinal : Geometry → Address → ℕ
+walkedOrdinal g a = ordinalAt g (walked g (a .cylinder)) (a .side) (a .sector)
