@@ -10,10 +10,10 @@ add-result : tie.Need-add-result
 add-result c = search needs
 
 returns : tie.Need-returns
-returns c = (skip-taken _ _ (c .if1 .taken), omega arith, omega arith)
+returns c = let x = c .before .args in (skip-taken (x .d) (x .n) (c .if1 .taken), omega arith, omega arith)
 
 returns-2 : tie.Need-returns-2
-returns-2 c = (skip-left _ _ (c .if1 .left), omega arith, omega arith)
+returns-2 c = let x = c .before .args in (skip-left (x .d) (x .n) (c .if1 .left), omega arith, omega arith)
 
 pub skip-one-spec : {M : Type 1} → statement M
 skip-one-spec = tie.close (tie.spec add-result returns returns-2)

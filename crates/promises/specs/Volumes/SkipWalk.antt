@@ -69,25 +69,36 @@ stops-once g c n m s t =
     sym
     (λ (l : m < n). absurd (omega (arith, fewer-before g m n l (s .1), s .2, t .2))))
 
--- the walk as a loop stops at the first cylinder up to which there are c good ones
+-- the walk as a loop: it has stopped, or passes a good cylinder and counts it, or passes one that is not good and counts none
+walk-done : (g : Geometry) (most n : ℕ) → walkOn g most n 0 ≡ n
+unfolding walkOn
+walk-done g zero n = refl
+walk-done g (suc most) n = refl
+
+walk-good : (g : Geometry) (most n left : ℕ) → 0 < left → goodCylinder g (suc n) ≡ true → walkOn g (suc most) n left ≡ walkOn g most (suc n) (left - 1)
+unfolding walkOn
+walk-good g most n left some good = simp (ne-eqb left 0 (λ (z : left ≡ 0). omega arith), good)
+
+walk-bad : (g : Geometry) (most n left : ℕ) → 0 < left → goodCylinder g (suc n) ≡ false → walkOn g (suc most) n left ≡ walkOn g most (suc n) left
+unfolding walkOn
+walk-bad g most n left some bad = simp (ne-eqb left 0 (λ (z : left ≡ 0). omega arith), bad)
+
+-- so it stops at the first cylinder up to which there are c good ones
 walk-stops : (g : Geometry) (c stop : ℕ) → goodUpTo g stop ≡ c → ((n : ℕ) → n < stop → goodUpTo g n < c)
     → (most n left : ℕ) → goodUpTo g n + left ≡ c → n ≤ stop → stop ≤ n + most → walkOn g most n left ≡ stop
 unfolding walkOn goodUpTo
 walk-stops g c stop all fewer zero n left e low high = omega arith
 walk-stops g c stop all fewer (suc most) n left e low high =
-    step (λ left′ e′ l. walk-stops g c stop all fewer most (suc n) left′ e′ (omega arith) (omega arith))
-  where
-    step : ((left′ : ℕ) → goodUpTo g (suc n) + left′ ≡ c → n < stop → walkOn g most (suc n) left′ ≡ stop)
-        → cond (eqb left 0) n (walkOn g most (suc n) (cond (goodCylinder g (suc n)) (left - 1) left)) ≡ stop
-    step next =
-        either (lt-or-le n stop)
-        (λ (l : n < stop).
-        let more = fewer n l in
-        rw (ne-eqb left 0 (λ (z : left ≡ 0). omega arith))
-        (by-test (goodCylinder g (suc n)) (λ good. rw good (next (left - 1) (rw good (omega arith)) l)) (λ bad. rw bad (next left (rw bad e) l))))
-        (λ (r : stop ≤ n).
-        let here : n ≡ stop = omega arith in
-        rw (eq-eqb left 0 (omega (arith, ap (goodUpTo g) here))) here)
+    either (lt-or-le n stop)
+    (λ (l : n < stop).
+    let more = fewer n l in
+    by-test (goodCylinder g (suc n))
+    (λ good. walk-good g most n left (omega arith) good ∙ walk-stops g c stop all fewer most (suc n) (left - 1) (rw good (omega arith)) (omega arith) (omega arith))
+    (λ bad. walk-bad g most n left (omega arith) bad ∙ walk-stops g c stop all fewer most (suc n) left (rw bad e) (omega arith) (omega arith)))
+    (λ (r : stop ≤ n).
+    let here : n ≡ stop = omega arith in
+    let none : left ≡ 0 = omega (arith, ap (goodUpTo g) here) in
+    rw none (walk-done g (suc most) n ∙ here))
 
 -- ---- two, where the second, if there is one, is behind the first
 module _ (g : Geometry) (in-order : 0 < g .d2 → g .d1 < g .d2) where
