@@ -40,9 +40,7 @@ enum { GALZ_GAP = 128, GALZ_END = 129 };
 enum { GALZ_STACK = 4096 };
 
 /*
- * The judgement of a volume. Done: its numbers, which galz_cylinders and the functions beside it give. They are those that VOL1 describes; where VOL1 has a space or
- * 1 at position 72, as older senders have it, they are those of ISO 5654 (L 73, I 26, D 26, P 128, one side), whatever stands at 76 and 81-89, and the image has 258,258
- * bytes. Refused: 1 to 12.
+ * The judgement of a volume. Done: its numbers, which galz_cylinders and the functions beside it give. Refused: 1 to 12.
  */
 galz_u64 galz_judge(const galz_u8 *image, galz_u64 image_length);
 
@@ -150,10 +148,9 @@ galz_u64 galz_delete(galz_u8 *image, galz_u64 image_length, galz_u64 slot);
  *
  *    1  the image is below 903 bytes
  *    2  sector 05, then 07, has a kind that is not 0                the sector
- *    3  a rule of VOL1 is broken                                    the position: 1, 5, 11, 38, 72, 76, 77, 80, 81, 83, 85 or 89; with a space or 1 at 72 not
- *                                                                   76 and 81 to 89
+ *    3  a rule of VOL1 is broken                                    the position: 1, 5, 11, 38, 72, 76, 77, 80, 81, 83, 85 or 89
  *    4  VOL1 11 is not space                                        11
- *    5  the image's length is wrong: not the one that the volume's numbers give
+ *    5  the image's length is wrong
  *    6  a sector's kind is not one of its three                     the sector's ordinal, from 0
  *    7  a rule of ERMAP is broken                                   the position
  *    8  a slot check-failed, or an incorrect mark with F            the slot

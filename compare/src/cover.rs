@@ -9,7 +9,6 @@ use crate::make::positions::{judged_in, named_by_10, ERMAP, VOL1};
 use crate::make::{cases, placings, Case};
 use crate::met;
 use crate::met_cylinders;
-use crate::met_older::{self, AGES};
 use crate::met_slots::{self, KEPT, NUMBERS, POSITIONS, REFUSED};
 use crate::model::{answer, Answer, Call};
 use crate::packed::{code, refusal_of, END, GAP};
@@ -106,7 +105,6 @@ fn shape_tables() -> Vec<Table> {
         table(FORMATS, formats),
         table(LEVELS, ["space", "1", "2", "another"]),
         table(BLOCKS, blocks),
-        table(AGES, met_older::OF_AGES),
     ]
 }
 
@@ -137,13 +135,7 @@ impl Cover {
         Cover::of(tables.chain(others).collect())
     }
 
-    /// What an older VOL1 on a short image is refused for.
-    pub fn of_older() -> Cover {
-        Cover::of(vec![table(met_older::REFUSED, met_older::OF_VOL1)])
-    }
-
-    /// What calls of reading, salvage, writing, creating and deleting reach,
-    /// those of the skip and those on older volumes.
+    /// What calls of reading, salvage, writing, creating and deleting reach.
     pub fn of_files() -> Cover {
         let files = ["defective records", "U > 0", "several records to a block"];
         let mut tables = vec![
@@ -153,11 +145,10 @@ impl Cover {
             table(FILES, files),
         ];
         let shapes = shape_tables().into_iter();
-        tables.extend(shapes.filter(|shape| [SIZES, FORMATS, BLOCKS, AGES].contains(&shape.0)));
+        tables.extend(shapes.filter(|shape| [SIZES, FORMATS, BLOCKS].contains(&shape.0)));
         let written = met::TABLES.iter();
         let placed = met_slots::TABLES.iter();
         let deep = written.chain(placed).chain(&met_cylinders::TABLES);
-        let deep = deep.chain(&met_older::TABLES);
         tables.extend(deep.map(|(title, rows)| table(title, rows.iter().copied())));
         tables.push(table(met_slots::VOLUMES_FIRST, met_slots::volumes_first()));
         Cover::of(tables)
@@ -189,7 +180,6 @@ impl Cover {
         self.count_refusal(given.packed);
         self.count_done(&case.call, &given);
         self.count_placing(case, given.packed);
-        self.count_facts_of_older(case, given.packed);
         if let Ok(geometry) = judge(&case.image) {
             self.count_volume(&case.image, &geometry);
         }
@@ -245,21 +235,6 @@ impl Cover {
     /// returned.
     pub fn count_cylinders(&mut self, case: &Case, packed: u64) {
         for (title, row) in met_cylinders::facts(case, packed) {
-            self.reach(title, &row);
-        }
-    }
-
-    /// Counts a call on an older volume and the number that it returned, and
-    /// whether a volume that it judged and accepted is one.
-    pub fn count_older(&mut self, case: &Case, packed: u64) {
-        self.count_facts_of_older(case, packed);
-        if case.call == Call::Judge && code(packed) == 0 {
-            self.reach(AGES, met_older::age(&case.image));
-        }
-    }
-
-    fn count_facts_of_older(&mut self, case: &Case, packed: u64) {
-        for (title, row) in met_older::facts(&case.image, &case.call, packed) {
             self.reach(title, &row);
         }
     }
@@ -340,7 +315,6 @@ impl Cover {
     fn count_volume(&mut self, image: &[u8], geometry: &crate::Geometry) {
         self.reach(SIZES, &geometry.p().to_string());
         self.reach(SIDES, &geometry.s.to_string());
-        self.reach(AGES, met_older::age(image));
         let defects = match (geometry.d1, geometry.d2) {
             (None, _) => "none",
             (Some(d1), None) if d1 == geometry.l => "d1 = L",

@@ -226,27 +226,6 @@ pub fn salvaged(session: &mut Session, seed: u64, volumes: usize) -> io::Result<
     Ok(())
 }
 
-/// Longer files of older volumes are left out.
-const MOST_RECORDS: usize = 30;
-
-/// A file of each of so many older volumes, blocks of every other one lost.
-pub fn older(session: &mut Session, seed: u64, volumes: usize) -> io::Result<()> {
-    for number in 0..volumes {
-        let mut rng = Rng::for_case(seed ^ 0x6, number as u64);
-        let geometry = with_defects(&mut rng, Geometry::ISO_5654);
-        let mut made = volume_of(&mut rng, geometry, want(number));
-        let short = |file: &&FilePlan| (1..=MOST_RECORDS).contains(&file.packed.records.len());
-        let Some(file) = made.files.iter().find(short).cloned() else {
-            continue;
-        };
-        if number / 6 % 2 == 1 {
-            lose_blocks(&mut rng, &mut made, &file, number);
-        }
-        both_ways(session, &mut rng, "older", &made.image, file.slot as u64)?;
-    }
-    Ok(())
-}
-
 type Family = (&'static str, fn(&mut Rng, usize) -> Made);
 
 const BROKEN: [Family; 11] = [

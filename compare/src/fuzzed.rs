@@ -37,11 +37,6 @@ const SAMPLES: [&str; 14] = [
     "defects-5-5-6",
 ];
 
-/// Older volumes (request 2026-06), the first two of 258,258 bytes. They have
-/// numbers that no kept input had, so that each of those has its base as before.
-const OLDER: [&str; 4] = ["older", "older-1", "older-short", "older-6596"];
-const OF_OLDER: std::ops::RangeInclusive<usize> = 0x5650..=0x565F;
-
 const MOST_CHANGES: u8 = 12;
 const MOST_CALLS: usize = 12;
 const MOST_RECORDS: u8 = 40;
@@ -63,33 +58,25 @@ const ENDS: [u64; 8] = [
 
 /// The images that inputs begin with, each with a call of its own.
 pub struct Bases {
-    bases: Vec<Base>,
-    older: Vec<Base>,
-}
-
-type Base = (Case, Option<Geometry>);
-
-fn samples(names: &'static [&str]) -> impl Iterator<Item = Case> {
-    let images = names.iter().filter_map(|name| named(name));
-    images.map(|image| Case {
-        family: "sample",
-        image,
-        call: Call::Judge,
-    })
+    bases: Vec<(Case, Option<Geometry>)>,
 }
 
 impl Default for Bases {
     fn default() -> Bases {
+        let samples = SAMPLES.iter().filter_map(|name| named(name));
+        let samples = samples.map(|image| Case {
+            family: "sample",
+            image,
+            call: Call::Judge,
+        });
         let drawn = cases(SEED, DRAWN, LARGEST);
         let small = drawn.filter(|case| case.image.len() <= LARGEST && knows(&case.call));
         let with_geometry = |case: Case| {
             let geometry = judge(&case.image).ok();
             (case, geometry)
         };
-        let bases = samples(&SAMPLES).chain(small);
         Bases {
-            bases: bases.map(with_geometry).collect(),
-            older: samples(&OLDER).map(with_geometry).collect(),
+            bases: samples.chain(small).map(with_geometry).collect(),
         }
     }
 }
@@ -314,11 +301,7 @@ impl Bases {
     /// The base with its changes, before the first call.
     fn begin<'a>(&self, mut input: Bytes<'a>) -> Run<'a> {
         let number = input.word();
-        let bases = match OF_OLDER.contains(&number) {
-            true => &self.older,
-            false => &self.bases,
-        };
-        let (base, geometry) = &bases[number % bases.len()];
+        let (base, geometry) = &self.bases[number % self.bases.len()];
         let mut image = base.image.clone();
         for _ in 0..input.byte() % MOST_CHANGES {
             change(&mut image, geometry.as_ref(), &mut input);

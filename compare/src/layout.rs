@@ -39,18 +39,6 @@ pub enum Mark {
 }
 
 impl Geometry {
-    /// Request 2026-06: "rely on ISO 5654. For those, one side, L 73, I 26,
-    /// D 26, P 128 apply". The numbers stand here alone.
-    pub const ISO_5654: Geometry = Geometry {
-        l: 73,
-        i: 26,
-        d: 26,
-        k: 0,
-        s: 1,
-        d1: None,
-        d2: None,
-    };
-
     /// "With k = 0 to 3 the body has 128·2^k bytes."
     pub fn p(&self) -> usize {
         128 << self.k

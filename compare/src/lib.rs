@@ -2,7 +2,6 @@
 //! once more, from its words alone, to be compared with the proved library.
 
 pub mod account;
-pub mod ages;
 pub mod cover;
 pub mod created;
 pub mod creating;
@@ -17,11 +16,9 @@ pub mod listing;
 pub mod make;
 pub mod met;
 pub mod met_cylinders;
-pub mod met_older;
 pub mod met_slots;
 pub mod model;
 pub mod odd;
-pub mod older;
 pub mod options;
 pub mod packed;
 pub mod piped;

@@ -3,15 +3,17 @@
 use compare::cover::cover;
 use compare::drive::{expected, serve_by, Outcome};
 use compare::listing::{listing, MOST_BYTES};
+use compare::make::case;
 use compare::make::sample::{named, NAMES, OTHER_NAMES};
 use compare::make::sizes::to_write;
-use compare::make::{case, LARGEST};
 use compare::options::{Options, SEED};
 use compare::properties::check;
 use compare::reading::{given, places};
-use compare::{ages, skips, Call};
+use compare::{skips, Call};
 use std::io::{Read, Write};
 use std::process::ExitCode;
+
+const DEFAULT_LARGEST: usize = 70_000;
 
 const HELP: &str = "\
 compare listing                         lists the image on standard input
@@ -27,7 +29,6 @@ compare bodies NAME                     writes the records that fill the file of
 compare lengths NAME                    writes the length of each of them, one to a line
 compare serve [--wrong N]               answers calls as the C driver does, every Nth wrongly
 compare serve --skip NAME               the same with a wrong skip of defective cylinders, as d2-with-c
-compare serve --age NAME                the same with a wrong reading of older volumes, as 76-judged
 compare --help                          shows this text
 ";
 
@@ -49,7 +50,6 @@ fn main() -> ExitCode {
         ["serve"] => serve_calls("0"),
         ["serve", "--wrong", every] => serve_calls(every),
         ["serve", "--skip", name] => serve_skip(name),
-        ["serve", "--age", name] => serve_age(name),
         ["--help" | "-h" | "help"] => print(HELP.as_bytes()),
         _ => misused(),
     }
@@ -89,7 +89,7 @@ fn sample(name: &str) -> ExitCode {
 
 fn drawn(number: &str) -> ExitCode {
     match number.parse() {
-        Ok(number) => print(&case(SEED, number, LARGEST).image),
+        Ok(number) => print(&case(SEED, number, DEFAULT_LARGEST).image),
         Err(_) => misused(),
     }
 }
@@ -152,17 +152,6 @@ fn serve_skip(name: &str) -> ExitCode {
     }
 }
 
-fn serve_age(name: &str) -> ExitCode {
-    match ages::named(name) {
-        Some(reading) => serve_said(0, |image, call| ages::said(reading, image, call)),
-        None => {
-            let names = ages::WRONG.map(|wrong| wrong.0);
-            eprintln!("wrong readings: {}", names.join(", "));
-            ExitCode::from(2)
-        }
-    }
-}
-
 fn serve_said(every: usize, said: impl FnMut(&[u8], &Call) -> Option<Outcome>) -> ExitCode {
     let mut output = std::io::stdout().lock();
     match serve_by(&mut std::io::stdin().lock(), &mut output, every, said) {
@@ -179,7 +168,7 @@ fn with_options(words: &[&str], count: u64, run: fn(u64, usize) -> ExitCode) -> 
 }
 
 fn show_cover(seed: u64, count: usize) -> ExitCode {
-    let cover = cover(seed, count, LARGEST);
+    let cover = cover(seed, count, DEFAULT_LARGEST);
     print!("{}", cover.text());
     for missing in cover.missing() {
         println!("never reached: {missing}");
@@ -195,7 +184,7 @@ fn show_cover(seed: u64, count: usize) -> ExitCode {
 }
 
 fn show_check(seed: u64, count: usize) -> ExitCode {
-    match check(seed, count, LARGEST) {
+    match check(seed, count, DEFAULT_LARGEST) {
         Ok(counts) => {
             for (name, count) in counts {
                 println!("{name:<40} {count:>8}");

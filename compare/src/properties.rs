@@ -7,7 +7,7 @@ use crate::layout::Geometry;
 use crate::make::build::{volume, Volume};
 use crate::make::create_cases::right_fields;
 use crate::make::file::{FilePlan, Want};
-use crate::make::positions::{free_in, of_another_level, of_vol1, Field, ERMAP, HDR1};
+use crate::make::positions::{free_in, of_another_level, Field, ERMAP, HDR1, VOL1};
 use crate::make::read_cases::lose;
 use crate::make::rng::Rng;
 use crate::make::volume_cases::Made;
@@ -111,8 +111,7 @@ fn soil(rng: &mut Rng, image: &mut [u8], ordinal: usize, fields: &[Field]) {
 fn soiled(rng: &mut Rng, image: &[u8]) -> Vec<u8> {
     let mut other = image.to_vec();
     soil(rng, &mut other, ERMAP_ORDINAL, &ERMAP);
-    let vol1 = of_vol1(Geometry::index_body(image, VOL1_ORDINAL));
-    soil(rng, &mut other, VOL1_ORDINAL, &vol1);
+    soil(rng, &mut other, VOL1_ORDINAL, &VOL1);
     let slots = judge(image).map_or(0, |geometry| geometry.slots());
     for slot in 1..=slots {
         let fields = match label_in(image, slot).map(level) {

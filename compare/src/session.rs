@@ -129,15 +129,6 @@ impl Session {
         &mut self,
         cases: impl Iterator<Item = (Case, Answer)>,
     ) -> io::Result<()> {
-        self.compare_answers(cases, Cover::count_cylinders)
-    }
-
-    /// The same, with what else is to be counted of each.
-    pub fn compare_answers(
-        &mut self,
-        cases: impl Iterator<Item = (Case, Answer)>,
-        count: impl Fn(&mut Cover, &Case, u64),
-    ) -> io::Result<()> {
         for (case, right) in cases {
             let right = outcome_of(&case.image, &case.call, right);
             let (Some(is), Some(right)) = (self.compare_whole(&case)?, right) else {
@@ -149,7 +140,7 @@ impl Session {
                 false => Err(format!("{}, not {}", told(&is), told(&right))),
             };
             if self.demand(&case, held) {
-                count(&mut self.cover, &case, is.returned);
+                self.cover.count_cylinders(&case, is.returned);
             }
         }
         Ok(())
@@ -158,7 +149,6 @@ impl Session {
     fn count(&mut self, case: &Case, outcome: &Outcome) {
         let [image, out, _] = &outcome.lent;
         let (call, returned) = (&case.call, outcome.returned);
-        self.cover.count_older(case, returned);
         match call {
             Call::Write { .. } => self.cover.count_writing(case, returned, image),
             Call::Create { .. } | Call::Delete { .. } => self.cover.count_placing(case, returned),

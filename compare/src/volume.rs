@@ -65,66 +65,25 @@ fn interleave_kept(label: &[u8]) -> bool {
     all_spaces(bytes) || decimal(bytes).is_some_and(|value| (1..=13).contains(&value))
 }
 
-/// Request 2026-06: "Older senders leave position 72 blank or write 1". Hex 00
-/// is not blank (reading 06.1).
-pub fn is_older(label: &[u8]) -> bool {
-    matches!(character(label, 72), b' ' | b'1')
-}
-
-/// The numbers of a volume, none where the field of one is at fault.
-struct Numbers {
-    k: Option<u8>,
-    l: Option<usize>,
-    i: Option<usize>,
-    d: Option<usize>,
-    s: Option<usize>,
-}
-
-/// "76 space, 1, 2, 3 for P = 128, 256, 512, 1024; .. 81-82 hex L, 1-96; 83-84
-/// hex I, 8-26; 85-86 hex D, 1-26; 89 hex S, 1-2."
-fn described(label: &[u8]) -> Numbers {
-    Numbers {
-        k: size_code(label),
-        l: hex_between(label, 81, 82, 1, 96),
-        i: hex_between(label, 83, 84, 8, 26),
-        d: hex_between(label, 85, 86, 1, 26),
-        s: hex_between(label, 89, 89, 1, 2),
-    }
-}
-
-/// Request 2026-06: "For those, one side, L 73, I 26, D 26, P 128 apply";
-/// "Positions 76 and 81-89 are then not judged", so none of them is read.
-fn relied_on() -> Numbers {
-    let Geometry { l, i, d, k, s, .. } = Geometry::ISO_5654;
-    Numbers {
-        k: Some(k),
-        l: Some(l),
-        i: Some(i),
-        d: Some(d),
-        s: Some(s),
-    }
-}
-
 /// "VOL1: 1-4 `VOL1`; 5-10, 11, 38-51 in the a-set; 72 `A`; 76 space, 1, 2,
 /// 3 for P = 128, 256, 512, 1024; 77-78 spaces or 01-13; 79 `3`; 81-82 hex
 /// L, 1-96; 83-84 hex I, 8-26; 85-86 hex D, 1-26; 89 hex S, 1-2."
 /// Request 2026-02 moves the version digit: "Position 80 must be `3`; 79
 /// becomes reserved and is not judged." So 80 stands where document 01 has 79.
-/// Request 2026-06: "3 at 72 only for other characters" than space, 1 and `A`.
 /// "In all three labels a fault is reported at its field's first position,
 /// the lowest first." Then "4 | VOL1 11 not space".
 fn judge_vol1(label: &[u8]) -> Result<Geometry, Refusal> {
-    let older = is_older(label);
-    let Numbers { k, l, i, d, s } = match older {
-        true => relied_on(),
-        false => described(label),
-    };
+    let k = size_code(label);
+    let l = hex_between(label, 81, 82, 1, 96);
+    let i = hex_between(label, 83, 84, 8, 26);
+    let d = hex_between(label, 85, 86, 1, 26);
+    let s = hex_between(label, 89, 89, 1, 2);
     let rules = [
         (1, field(label, 1, 4) == b"VOL1"),
         (5, all_in_a_set(field(label, 5, 10))),
         (11, in_a_set(character(label, 11))),
         (38, all_in_a_set(field(label, 38, 51))),
-        (72, older || character(label, 72) == b'A'),
+        (72, character(label, 72) == b'A'),
         (76, k.is_some()),
         (77, interleave_kept(label)),
         (80, character(label, 80) == b'3'),

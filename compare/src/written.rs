@@ -2,8 +2,7 @@
 //! of every byte; then the file and all others are read through the library.
 
 use crate::account::{Ground, List};
-use crate::layout::Geometry;
-use crate::make::build::{volume, volume_of, with_defects, Volume};
+use crate::make::build::{volume, Volume};
 use crate::make::calls::{call_at, write_call};
 use crate::make::file::Want;
 use crate::make::grounds::{ground, GROUNDS};
@@ -303,30 +302,6 @@ pub fn rewritten(
         let mut writer = Writer::new(session, &mut rng, "rewritten", made.image);
         let turns = (0..2).map(|turn| Takes::ALL[(5 * number + 7 * turn) % Takes::ALL.len()]);
         lists_in_turn(&mut writer, slot, turns)?;
-    }
-    Ok(())
-}
-
-/// Of an older volume's files fewer records are read back.
-const MOST_READ_OLDER: usize = 12;
-
-/// Lists on the first file of so many older volumes, two each.
-pub fn older(session: &mut Session, seed: u64, volumes: usize) -> io::Result<()> {
-    for number in 0..volumes {
-        let mut rng = Rng::for_case(seed ^ 0x62D, number as u64);
-        let geometry = with_defects(&mut rng, Geometry::ISO_5654);
-        let want = Want::format(b"FVS"[number % 3]);
-        let made = volume_of(&mut rng, geometry, want);
-        let slot = made.main().slot as u64;
-        let mut writer = Writer::new(session, &mut rng, "older", made.image);
-        for turn in 0..2 {
-            let Some(ground) = Ground::of(&writer.case.image, slot) else {
-                continue;
-            };
-            let takes = Takes::ALL[(5 * number + 7 * turn) % Takes::ALL.len()];
-            let records = list(writer.rng, &ground.shape, takes);
-            writer.write_and_read(write_call(slot, &records), MOST_READ_OLDER)?;
-        }
     }
     Ok(())
 }

@@ -38,7 +38,7 @@ fn input_above_65536_bytes_is_too_long() {
 #[test]
 fn a_drawn_case_is_the_one_of_its_number() {
     let drawn = run(&["drawn", "7"], b"").stdout;
-    let case = compare::make::case(compare::options::SEED, 7, compare::make::LARGEST);
+    let case = compare::make::case(compare::options::SEED, 7, 70_000);
     assert_eq!(drawn, case.image);
     assert_eq!(run(&["drawn", "x"], b"").status.code(), Some(2));
 }

@@ -34,7 +34,6 @@ fn the_program_itself_behind_a_pipe_differs_nowhere() {
     for stage in [
         "version",
         "cylinders",
-        "older",
         "followed",
         "salvaged",
         "broken",
@@ -64,7 +63,7 @@ fn what_is_never_reached_is_a_failure() {
     let output = run(DRIVEN, &few);
     assert_eq!(output.status.code(), Some(1));
     let text = text(&output);
-    assert!(text.contains("\nnever reached: P accepted: 256\n"));
+    assert!(text.contains("\nnever reached: refusals: 19\n"));
     assert!(text.contains("\nnever reached: chains: created until 28\n"));
     assert!(!text.contains("DIFFERENT"));
 }
@@ -99,21 +98,21 @@ fn a_driver_that_ends_early_is_a_failure() {
 fn the_listing_is_compared_byte_for_byte() {
     let right = run(LISTED, &["--count", "20", "--", COMPARE, "listing"]);
     assert!(right.status.success());
-    assert!(text(&right).ends_with("81 passed, 0 failed\n"));
+    assert!(text(&right).ends_with("76 passed, 0 failed\n"));
     let wrong = run(LISTED, &["--count", "20", "--", COMPARE, "--help"]);
     assert_eq!(wrong.status.code(), Some(1));
-    assert!(text(&wrong).ends_with("0 passed, 81 failed\n"));
+    assert!(text(&wrong).ends_with("0 passed, 76 failed\n"));
     assert_eq!(run(LISTED, &["--count"]).status.code(), Some(2));
 }
 
 #[test]
 fn what_is_too_long_for_the_listing_is_said() {
-    let longer = ["--count", "0", "--most", "80000", "--", COMPARE, "listing"];
-    assert!(text(&run(LISTED, &longer)).ends_with("61 passed, 0 failed\n"));
+    let longer = ["--count", "0", "--most", "100000", "--", COMPARE, "listing"];
+    assert!(text(&run(LISTED, &longer)).ends_with("56 passed, 0 failed\n"));
     let all = [
         "--count", "0", "--most", "6000000", "--", COMPARE, "listing",
     ];
-    assert!(text(&run(LISTED, &all)).ends_with("54 passed, 7 failed\n"));
+    assert!(text(&run(LISTED, &all)).ends_with("52 passed, 4 failed\n"));
 }
 
 #[test]

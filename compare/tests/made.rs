@@ -4,8 +4,7 @@ use compare::cover::cover;
 use compare::make::create_cases;
 use compare::make::rng::Rng;
 use compare::make::sample::{named, NAMES, OTHER_NAMES};
-use compare::make::{case, cases, counted, placings, sample, sizes, Case};
-use compare::make::{FAMILIES, LARGEST, LEAST};
+use compare::make::{case, cases, counted, placings, sample, sizes, Case, FAMILIES, LEAST};
 use compare::packed::{code, geometry_of, reading_of, refusal, refusal_of};
 use compare::properties::{check, lent_bytes_stay};
 use compare::{answer, count, judge, read, Call, Geometry, Place, Reading, Refusal};
@@ -15,20 +14,16 @@ const SEED: u64 = 28_081;
 
 #[test]
 fn every_refusal_answer_position_and_shape_is_reached() {
-    let reached = cover(SEED, 20_000, LARGEST);
+    let reached = cover(SEED, 20_000, 70_000);
     assert_eq!(reached.missing(), Vec::<String>::new());
     assert_eq!(reached.unlisted().next(), None);
 }
 
 #[test]
-fn small_cases_reach_all_but_too_long_and_older() {
+fn small_cases_reach_all_but_too_long() {
     assert_eq!(
         cover(SEED + 1, 20_000, 6_000).missing(),
-        [
-            "listings: TOO LONG",
-            "VOL1 accepted: older, 1",
-            "VOL1 accepted: older, space"
-        ]
+        ["listings: TOO LONG"]
     );
 }
 
@@ -53,13 +48,7 @@ fn counted_cases_keep_lent_bytes_and_are_many() {
     assert_eq!(number, COUNTED);
 }
 
-const COUNTED: usize = 344_956;
-
-/// Older volumes that are not refused for their length are longer.
-#[test]
-fn all_counted_cases_are_so_many() {
-    assert_eq!(counted(usize::MAX).count(), 347_792);
-}
+const COUNTED: usize = 333_756;
 
 #[test]
 fn the_first_cases_touch_every_family() {
@@ -295,7 +284,7 @@ fn every_sample_that_is_named_is_made_and_judged_with_its_own_length() {
         if let Ok(geometry) = judge(&image) {
             assert_eq!(image.len(), geometry.image_length(), "{name}");
         } else {
-            assert!(["refused", "older-6596", "older-short"].contains(&name));
+            assert_eq!(name, "refused");
         }
     }
 }

@@ -2,21 +2,13 @@
 //! position of VOL1, ERMAP and labels of every level.
 
 use compare::make::fields::READING_PAIRS;
-use compare::make::older::{aged, described, ANOTHER};
-use compare::make::positions::{field_at, of_another_level, of_older, Class, Field};
-use compare::make::positions::{ERMAP, HDR1, VOL1};
+use compare::make::positions::{field_at, of_another_level, Class, Field, ERMAP, HDR1, VOL1};
 use compare::make::sample::{hdr1, Plain};
 use compare::{judge, Refusal};
 
 #[test]
 fn each_position_stands_in_exactly_one_field() {
-    for fields in [
-        &VOL1[..],
-        &ERMAP,
-        &HDR1,
-        &of_another_level()[..],
-        &of_older(),
-    ] {
+    for fields in [&VOL1[..], &ERMAP, &HDR1, &of_another_level()[..]] {
         let positions = fields.iter().flat_map(|field| field.first..=field.last);
         assert!(positions.eq(1..=128));
     }
@@ -34,9 +26,6 @@ fn reserved_and_unjudged_positions_are_those_of_tables_2_to_4() {
     let unjudged = tables.map(|fields| of(fields, Class::Unjudged));
     assert_eq!(unjudged, [2, 0, 0]);
     assert_eq!(of(&of_another_level(), Class::Judged), 4 + 5 + 5 + 1);
-    // "Positions 76 and 81-89 are then not judged" (request 2026-06).
-    assert_eq!(of(&of_older(), Class::Unjudged), 1 + 9);
-    assert_eq!(of(&of_older(), Class::Reserved), 89);
 }
 
 /// A label of a healthy volume and the table that it goes by.
@@ -99,34 +88,11 @@ fn vol1_is_judged_as_its_table_says() {
             // "4 | VOL1 11 not space | 11"
             11 => *refused == Refusal::at(4, 11),
             // Another geometry has another length: "5 | image length wrong".
-            // So has an older VOL1, a space or `1` at 72.
-            72 | 76 | 81 | 83 | 85 | 89 => *refused == Refusal::at(5, 0),
+            76 | 81 | 83 | 85 | 89 => *refused == Refusal::at(5, 0),
             _ => false,
         },
     };
     tied.holds();
-}
-
-#[test]
-fn vol1_of_older_senders_is_judged_as_its_table_says() {
-    for mark in *b" 1" {
-        let mut plain = described();
-        plain.put_label(1, &hdr1("FILE0", 30, "01001", "73026"));
-        plain.image = aged(&plain.image, mark, &ANOTHER);
-        let tied = Tied {
-            plain,
-            sector: 7,
-            fields: of_older(),
-            own: |field| Refusal::at(3, field.first),
-            other: |field, refused| match field.first {
-                11 => *refused == Refusal::at(4, 11),
-                // With `A` the label describes a volume of another length.
-                72 => *refused == Refusal::at(5, 0),
-                _ => false,
-            },
-        };
-        tied.holds();
-    }
 }
 
 #[test]

@@ -23,8 +23,8 @@ fn every_case_is_answered_as_told_and_a_refusal_changes_no_lent_byte() {
 const COUNTS: [(&str, usize); 5] = [
     ("version-and-fault", 680),
     ("version-and-field", 360),
-    ("version-both-forms", 552),
-    ("version-old-form", 552),
+    ("version-both-forms", 540),
+    ("version-old-form", 540),
     ("version-pair", 8_192),
 ];
 

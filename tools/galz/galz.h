@@ -57,9 +57,6 @@ enum status store_image(const struct bytes *image, const struct words *words);
 enum status find_slot(const struct bytes *image, const struct words *words, galz_u64 *slot);
 /* of an accepted image: the label in a slot, or NULL */
 const galz_u8 *label_in(const struct bytes *image, unsigned slot);
-/* of an image that is not refused 1: its label VOL1; and whether it is an older sender's, "position 72 blank or [..] 1", so that the numbers of ISO 5654 apply */
-const galz_u8 *vol1_of(const struct bytes *image);
-bool relies_on_iso(const struct bytes *image);
 /* a label's field, by its first position, counted from 1 as the standard does */
 const char *field(const galz_u8 *label, unsigned position);
 /* whether the fields of a label are judged: level space, 1 or 2 */

@@ -26,15 +26,6 @@ const galz_u8 *label_in(const struct bytes *image, unsigned slot)
 	return body[-1] == 0 ? body : NULL;
 }
 
-/* it stands right before slot 1 */
-const galz_u8 *vol1_of(const struct bytes *image) { return image->at + galz_slot_offset(0); }
-
-bool relies_on_iso(const struct bytes *image)
-{
-	char type = *field(vol1_of(image), 72);
-	return type == ' ' || type == '1';
-}
-
 const char *field(const galz_u8 *label, unsigned position) { return (const char *)label + position - 1; }
 
 bool is_known(const galz_u8 *label) { return strchr(" 12", *field(label, 44)) != NULL; }

@@ -21,7 +21,7 @@ static const struct command {
 } commands[] = {
 	{ "judge", judge, 0, "i",
 	  "galz judge IMAGE\n"
-	  "  The volume's numbers and where they come from, or why it is refused.\n" },
+	  "  The volume's numbers, or why it is refused.\n" },
 	{ "cylinders", cylinders, 0, "i",
 	  "galz cylinders IMAGE\n"
 	  "  A line for each data cylinder: its number c; q, which is c past the first defective cylinder; the physical cylinder, which is q past the second.\n" },
@@ -272,7 +272,7 @@ static enum status help(void)
 
 static enum status version(void)
 {
-	puts("galz 1.3 (GOST 28081-89)");
+	puts("galz 1.2 (GOST 28081-89)");
 	return DONE;
 }
 

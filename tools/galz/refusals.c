@@ -12,7 +12,7 @@ static const struct field vol1[] = {
 	{ 5, "the volume's name" },
 	{ 11, "access to the volume" },
 	{ 38, "the owner's name" },
-	{ 72, "the type of recording: A, or a space or 1 for the numbers of ISO 5654" },
+	{ 72, "the type of recording, A" },
 	{ 76, "the code of the physical record's length P" },
 	{ 77, "the sequence of sectors" },
 	{ 80, "the version of the standard, 3" },
@@ -74,7 +74,7 @@ static const struct refusal {
 	[2] = { "index sector", NULL, "the index sector does not have the valid data mark", NULL },
 	[3] = { "position", NULL, "a rule of the label VOL1 is broken", vol1 },
 	[4] = { "position", NULL, "VOL1 restricts the access to the volume", NULL },
-	[5] = { NULL, NULL, "the image does not have the length that the volume's numbers give", NULL },
+	[5] = { NULL, NULL, "the image does not have the length that VOL1 says", NULL },
 	[6] = { "sector ordinal", NULL, "the kind byte of the sector is none of the three that it may be", NULL },
 	[7] = { "position", NULL, "a rule of the label ERMAP is broken", ermap },
 	[8] = { "slot", NULL, "the slot's sector failed its check or is defective", NULL },
@@ -120,17 +120,11 @@ static const char *field_at(const struct field *fields, galz_u64 position)
 	return NULL;
 }
 
-/*
- * Request 2026-02: a label made by the numbers of table 2 as printed, which have the version before the reserve. Request 2026-06: "ISO 6596 diskettes carry the same mark
- * and stay refused by length". (3 and 5 are given behind 1, so VOL1 is there.)
- */
+/* Request 2026-02: a label made by the numbers of table 2 as printed, which have the version before the reserve. VOL1 stands right before slot 1; 3 is given behind 1. */
 static const char *hint_at(const struct bytes *image, galz_u64 answer)
 {
-	if (galz_code(answer) == 3 && galz_first(answer) == 80 && *field(vol1_of(image), 79) == '3')
-		return " (3 stands at 79, where table 2 as printed has it)";
-	if (galz_code(answer) == 5 && relies_on_iso(image))
-		return " (VOL1 relies on ISO 5654 by position 72: 258258 bytes; diskettes of ISO 6596, which carry the same mark, are not read)";
-	return "";
+	bool version = galz_code(answer) == 3 && galz_first(answer) == 80;
+	return version && *field(image->at + galz_slot_offset(0), 79) == '3' ? " (3 stands at 79, where table 2 as printed has it)" : "";
 }
 
 static enum status say_in_words(const struct bytes *image, galz_u64 answer, const struct refusal *refusal)

@@ -1,7 +1,8 @@
 /* judge, cylinders and list: what a volume is, and what is on it. */
 #include "galz.h"
 
-static const char *volume_name(const struct bytes *image) { return field(vol1_of(image), 5); }
+/* the volume's name: VOL1 stands right before slot 1 */
+static const char *volume_name(const struct bytes *image) { return field(image->at + galz_slot_offset(0), 5); }
 
 /* the number of so many digits, or of spaces in their stead */
 static unsigned number(const galz_u8 *label, unsigned position, unsigned digits, unsigned blank)
@@ -41,7 +42,7 @@ enum status judge(struct bytes *image, const struct words *words)
 	galz_u64 volume = galz_judge(image->at, image->length);
 	if (galz_refused(volume))
 		return say_refusal(image, volume);
-	printf("volume %.6s\nnumbers %s\n", volume_name(image), relies_on_iso(image) ? "ISO 5654" : "VOL1");
+	printf("volume %.6s\n", volume_name(image));
 	printf("L %u\nI %u\nD %u\nP %u\nS %u\n", galz_cylinders(volume), galz_index_sectors(volume), galz_sectors(volume), galz_record_bytes(volume),
 	       galz_sides(volume));
 	show_defects(volume);

@@ -6,10 +6,10 @@ use compare::make::build::plain_geometry;
 use compare::make::create_cases::right_fields;
 use compare::make::rng::Rng;
 use compare::make::sample::{named, NAMES};
-use compare::make::{bad::bad, cases, counted, cylinders, version, Case, LARGEST};
+use compare::make::{bad::bad, cases, counted, cylinders, version, Case};
 use compare::options::{Options, SEED};
 use compare::session::Session;
-use compare::{created, edges, follow, judge, odd, older, uncreated, unwritten, written, Call};
+use compare::{created, edges, follow, judge, odd, uncreated, unwritten, written, Call};
 use std::io;
 use std::process::ExitCode;
 
@@ -26,9 +26,6 @@ Runs the driver by COMMAND and compares with it
   are read, salvaged, written, created and deleted on volumes with every pair of defects;
 - bad input: random bytes, a volume cut to every length, every value of every
   byte of its VOL1 and ERMAP sectors;
-- older volumes, with a space or 1 at 72 of VOL1: every value of that byte and of those that are judged and not judged
-  with it, lengths, every two faults, files on them, each with its whole answer, and a described volume of the same
-  numbers beside; drawn ones of every family, N/4 short ones, files that are followed, written, created and deleted;
 - whole files, plainly and in salvage, by following the places that the library gives: of N/2 sound volumes, of N/4 with
   lost blocks, of N/2 with broken content or refused, of N/8 with control words in any order;
 - places that no reading leads to, in N/40 small volumes; places of the largest volumes;
@@ -41,14 +38,14 @@ Runs the driver by COMMAND and compares with it
 - creates and deletes, counted out and N/4 drawn ones, refused or done; behind each that is done every byte of the image
   is accounted for, and the file, all other files, judgement, free records and names are asked; fields of any bytes; on
   N/100 volumes chains of deletes, creates and writes until the volume is full and until it is empty.
-What calls of reading, salvage, writing, creating and deleting have reached is printed, and what those of the skip and
-those on older volumes have; all of the table has to be. The last line is 'N passed, M failed'.
+What calls of reading, salvage, writing, creating and deleting have reached is printed, and what those of the skip have;
+all of the table has to be. The last line is 'N passed, M failed'.
 ";
 
 const DEFAULTS: [(&str, u64); 4] = [
     ("seed", SEED),
     ("count", 4_000),
-    ("largest", LARGEST as u64),
+    ("largest", 70_000),
     ("every", 13),
 ];
 
@@ -73,9 +70,8 @@ fn main() -> ExitCode {
 
 type Stage = fn(&mut Session, &Options) -> io::Result<()>;
 
-const STAGES: [(&str, Stage); 5] = [
+const STAGES: [(&str, Stage); 4] = [
     ("volumes", volumes),
-    ("older volumes", older_volumes),
     ("files", files),
     ("writes", writes),
     ("creates and deletes", placings),
@@ -112,12 +108,6 @@ fn volumes(session: &mut Session, options: &Options) -> io::Result<()> {
     session.stage("version", |on| on.compare_told(version::told()))?;
     session.stage("cylinders", |on| on.compare_answered(cylinders::all()))?;
     session.stage("bad", |on| on.compare_all(bad(seed, count)))
-}
-
-/// Volumes with an older VOL1, and the same described.
-fn older_volumes(session: &mut Session, options: &Options) -> io::Result<()> {
-    let (seed, count) = (options.number("seed"), options.count("count"));
-    session.stage("older", |on| older::all(on, seed, count / 4))
 }
 
 /// Files whose answers lead to the next call.

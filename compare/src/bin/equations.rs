@@ -6,7 +6,7 @@
 //! so that this file knows only the names that it cites.
 
 use compare::cover::Cover;
-use compare::make::{build, cases, counted, cylinders, older, placings, Case};
+use compare::make::{cases, counted, cylinders, placings, Case};
 use compare::packed::{code, GAP};
 use compare::{answer, listing, Call};
 use std::collections::BTreeMap;
@@ -23,7 +23,7 @@ equations DEFINITIONS OUT --image FILE
 Writes the crates equations_1, equations_2 .. below the folder OUT, equations
 about each of so many cases to a crate: DEFINITIONS is the folder specs/ of the crate standard. First
 come cases that reach every refusal, position, answer and shape between them,
-those of creating and deleting for themselves, short images with an older VOL1 and all that it is refused for, then salvages that give gaps and go on behind them, and physical
+those of creating and deleting for themselves, then salvages that give gaps and go on behind them, and physical
 cylinders of volumes with defects, by the two comparisons and by the walk; of the rest every
 other one is drawn from the seed, with images of at most so many bytes, or taken evenly from those counted out.
 Prints a line for each crate: its name, the number of its equations, and 'needed' if one of them is of the first sort,
@@ -75,7 +75,7 @@ fn options(words: &[String]) -> Option<Options> {
         match name.as_str() {
             "--seed" => options.seed = value.parse().ok()?,
             "--count" => options.count = value.parse().ok()?,
-            "--largest" => options.largest = value.parse().ok().filter(|n| *n < build::OLDER)?,
+            "--largest" => options.largest = value.parse().ok()?,
             "--each" => options.each = value.parse().ok().filter(|n| *n > 0)?,
             "--image" => options.image = Some(value.clone()),
             _ => return None,
@@ -136,10 +136,9 @@ fn chosen(options: &Options) -> io::Result<(Vec<Case>, usize)> {
     let Some(file) = &options.image else {
         let small = cases(options.seed, LOOKED_AT, options.largest);
         let roomy = cases(options.seed, LOOKED_AT, options.largest.max(ROOMY));
-        let mut all = covering(Cover::new(), small.chain(roomy), &LEFT_OUT)?;
+        let mut all = covering(Cover::new(), small.chain(roomy), &[LEFT_OUT])?;
         let placings = placings(options.seed, LOOKED_AT, options.largest);
         all.extend(covering(Cover::of_creating(), placings, &[])?);
-        all.extend(covering(Cover::of_older(), aged(), &[])?);
         all.extend(salvaged(options, |mark, code| mark == 0 && code == GAP));
         all.extend(salvaged(options, |mark, code| mark != 0 && code == GAP));
         all.extend(salvaged(options, |mark, code| mark != 0 && code == 0));
@@ -173,13 +172,8 @@ const LOOKED_AT: usize = 20_000;
 /// The sizes P = 512 and 1024 need images of more than 3,084 and 5,132 bytes.
 const ROOMY: usize = 8_000;
 
-/// A listing that is too long needs an image that is too long to be computed,
-/// and so does an older volume that is accepted.
-const LEFT_OUT: [&str; 3] = [
-    "listings: TOO LONG",
-    "VOL1 accepted: older, 1",
-    "VOL1 accepted: older, space",
-];
+/// A listing that is too long needs an image that is too long to be computed.
+const LEFT_OUT: &str = "listings: TOO LONG";
 
 /// Cases that reach every refusal, judged position, answer and shape between
 /// them, or all else that a cover has: each the first that reaches something
@@ -223,12 +217,6 @@ fn salvaged(options: &Options, wanted: fn(u64, u8) -> bool) -> impl Iterator<Ite
 
 /// The largest image of the counted cases that are taken.
 const COUNTED: usize = 4_700;
-
-/// Small images with an older VOL1, which are refused.
-fn aged() -> impl Iterator<Item = Case> {
-    let all = older::all().map(|(case, _)| case);
-    all.filter(|case| case.image.len() <= COUNTED && older::has_older(&case.image))
-}
 
 /// Data cylinders that a defective one moves, of small volumes.
 fn skipped() -> Vec<Case> {

@@ -1,7 +1,7 @@
 //! Healthy volumes of every geometry.
 
 use super::file::{other_label, plan_file, FilePlan, Want};
-use super::positions::{draw_label, of_older, ERMAP, VOL1};
+use super::positions::{draw_label, ERMAP, VOL1};
 use super::rng::Rng;
 use crate::layout::{Geometry, INDEX_SECTOR};
 use crate::text::address_digits;
@@ -54,21 +54,8 @@ impl Volume {
 /// The smallest legal image.
 pub const LEAST: usize = 1_548;
 
-/// The length of the images of ISO 5654: "an image of 258,258 bytes" (request
-/// 2026-06). A limit below it draws no older volume.
-pub const OLDER: usize = 258_258;
-
-/// The limit where none is told: older volumes, a few bytes longer too.
-pub const LARGEST: usize = OLDER + 300;
-
-/// One geometry in so many is that of ISO 5654, where its image is not too long.
-const OLDER_IN: usize = 80;
-
 /// A geometry whose image has at most `largest` bytes.
 pub fn geometry(rng: &mut Rng, largest: usize) -> Geometry {
-    if largest >= OLDER && rng.below(OLDER_IN) == 0 {
-        return with_defects(rng, Geometry::ISO_5654);
-    }
     let wide = rng.chance(10);
     for _ in 0..60 {
         let geometry = if wide {
@@ -151,31 +138,9 @@ pub fn ermap_of(geometry: &Geometry, position: usize) -> Option<Vec<u8>> {
     cylinder.map(|cylinder| format!("{cylinder:02}0").into_bytes())
 }
 
-/// What stands at 72: `A`, and with the numbers of ISO 5654 mostly the mark of
-/// an older sender.
-fn recording(rng: &mut Rng, geometry: &Geometry) -> u8 {
-    let Geometry { d1, d2, .. } = *geometry;
-    let older = Geometry {
-        d1,
-        d2,
-        ..Geometry::ISO_5654
-    };
-    match *geometry == older {
-        true => rng.pick(b"    1111A"),
-        false => b'A',
-    }
-}
-
-/// VOL1 of a geometry; an older one has any bytes at 76 and 81-89.
 fn vol1(rng: &mut Rng, geometry: &Geometry) -> Vec<u8> {
-    let recording = recording(rng, geometry);
-    let fields = match recording {
-        b'A' => VOL1.to_vec(),
-        _ => of_older(),
-    };
-    draw_label(rng, &fields, |rng, field| match field.first {
+    draw_label(rng, &VOL1, |rng, field| match field.first {
         5 | 38 => rng.a_characters(field.length()),
-        72 => vec![recording],
         77 if rng.below(3) > 0 => format!("{:02}", rng.between(1, 13)).into_bytes(),
         // 11 is a space, and 77-78 now and then.
         position => vol1_of(geometry, position).unwrap_or_else(|| field.spaces()),

@@ -442,39 +442,6 @@ fn lost(geometry: &Geometry, first: usize, m: usize) -> Vec<Told> {
     all.flatten().collect()
 }
 
-/// A file from one of the data records on, in blocks of m: read whole, read with
-/// its first, middle and last block lost, written whole and by half, and read
-/// back; and the physical cylinders about the last one.
-pub(super) fn of_file(
-    family: &'static str,
-    geometry: &Geometry,
-    first: usize,
-    m: usize,
-) -> Vec<Told> {
-    let mut file = File::on(family, geometry, first, m);
-    let contents = file.contents();
-    let blocks = contents.len();
-    let about = |told: &Told| match told.0.call {
-        Call::Physical { cylinder } => {
-            [0, 1].contains(&cylinder) || cylinder + 2 > geometry.l as u64
-        }
-        _ => false,
-    };
-    let asked = physicals(family, &file.plain).into_iter();
-    let mut all: Vec<Told> = asked.filter(about).take(8).collect();
-    all.extend(file.read(&contents));
-    let (mut lost, mut left) = (File::on(family, geometry, first, m), contents);
-    for block in [0, blocks / 2, blocks - 1] {
-        lost.lose(block * m, &mut left);
-    }
-    all.extend(lost.read(&left));
-    for count in [blocks, blocks / 2] {
-        all.push(file.write(count));
-    }
-    all.extend(file.read(&(0..blocks / 2).map(|n| Some(file.record(n))).collect()));
-    all
-}
-
 /// A file created behind one of a single record, over the ends of all
 /// cylinders; written, read back and deleted.
 fn placed((geometry, kind): (Geometry, u8)) -> Vec<Told> {

@@ -14,9 +14,6 @@ pub mod file;
 pub mod file_cases;
 pub mod grounds;
 pub mod lists;
-pub mod older;
-pub mod older_faults;
-pub mod older_files;
 pub mod pack;
 pub mod places;
 pub mod positions;
@@ -30,7 +27,7 @@ pub mod version;
 pub mod volume_cases;
 pub mod write_cases;
 
-pub use build::{LARGEST, LEAST};
+pub use build::LEAST;
 pub use sample::{named, sample};
 pub use tables::counted;
 

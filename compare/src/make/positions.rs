@@ -5,7 +5,6 @@
 
 use super::rng::Rng;
 use crate::layout::INDEX_BODY;
-use crate::volume::is_older;
 
 /// What the rules make of a field.
 #[derive(Clone, Copy, Debug, PartialEq, Eq)]
@@ -167,20 +166,6 @@ pub fn unjudging(fields: &[Field], which: impl Fn(&Field) -> bool) -> Vec<Field>
 /// "Another level has only 1-4, 29-33, 35-39 and 44 judged."
 pub fn of_another_level() -> Vec<Field> {
     unjudging(&HDR1, |field| ![1, 29, 35, 44].contains(&field.first))
-}
-
-/// Request 2026-06: "Positions 76 and 81-89 are then not judged" on a VOL1 with
-/// a space or `1` at 72; all others are as ever.
-pub fn of_older() -> Vec<Field> {
-    unjudging(&VOL1, |field| matches!(field.first, 76 | 81..=89))
-}
-
-/// The table that a VOL1 goes by.
-pub fn of_vol1(label: &[u8]) -> Vec<Field> {
-    match is_older(label) {
-        true => of_older(),
-        false => VOL1.to_vec(),
-    }
 }
 
 /// A label drawn field by field: any bytes where they may stand, the value

@@ -2,8 +2,6 @@
 
 use super::build::{ermap_of, plain_geometry, vol1_of};
 use super::defects;
-use super::older::{aged, MARKS, NONE, SPACES};
-use super::older_files::sample_volume;
 use super::positions::{free_in, plain_label, ERMAP, HDR1, VOL1};
 use super::sizes::{largest, read_sample, smallest, to_place, to_write, typical};
 use crate::layout::{Geometry, INDEX_SECTOR};
@@ -213,22 +211,13 @@ fn refused() -> Plain {
     plain
 }
 
-/// An older volume of 80,706 bytes, as ISO 6596 has them by table 5; refused 5.
-fn older_6596() -> Vec<u8> {
-    aged(&Plain::new(31, 16, 9, 1, 1).image, MARKS[0], &SPACES)
-}
-
-pub const NAMES: [&str; 15] = [
+pub const NAMES: [&str; 11] = [
     "demo",
     "two-sided",
     "other-level",
     "wrong-mark",
     "split",
     "refused",
-    "older",
-    "older-1",
-    "older-6596",
-    "older-short",
     "smallest",
     "typical",
     "largest",
@@ -255,10 +244,6 @@ pub fn named(name: &str) -> Option<Vec<u8>> {
         "wrong-mark" => wrong_mark().image,
         "split" => split().image,
         "refused" => refused().image,
-        "older" => sample_volume(MARKS[0], &SPACES).image,
-        "older-1" => sample_volume(MARKS[1], &NONE).image,
-        "older-6596" => older_6596(),
-        "older-short" => aged(&sample(), MARKS[0], &SPACES),
         "smallest" => smallest(),
         "typical" => typical(),
         "largest" => largest(45),

@@ -380,18 +380,16 @@ pub fn tables() -> Vec<Table> {
     tables
 }
 
-/// The cases of every table, of the version digit, of the skip of defective
-/// cylinders and of older volumes, whose image has at most `largest` bytes; the
-/// same each time. All but `every-long-block` and some of the last three are
-/// below 13,000 bytes.
+/// The cases of every table, of the version digit and of the skip of defective
+/// cylinders, whose image has at most `largest` bytes; the same each time. All
+/// but `every-long-block` and some of the last two are below 13,000 bytes.
 pub fn counted(largest: usize) -> impl Iterator<Item = Case> {
     let fitting = tables()
         .into_iter()
         .filter(move |table| table.base.len() <= largest);
     let version = super::version::told().map(|(case, _)| case);
     let cylinders = super::cylinders::all().map(|(case, _)| case);
-    let older = super::older::all().map(|(case, _)| case);
-    let told = version.chain(cylinders).chain(older);
+    let told = version.chain(cylinders);
     let told = told.filter(move |case| case.image.len() <= largest);
     fitting.flat_map(Table::cases).chain(told)
 }

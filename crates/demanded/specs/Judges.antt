@@ -9,14 +9,13 @@ use mathlib.Core.List.{List, [], ◌∷◌, Memᴰ}
 use native.Mathlib.Omega.{arith}
 use Rattle.standard.specs.Characters.{bytes, byte, one_of, same, at}
 use Rattle.standard.specs.Refusals.{refuse}
-use Rattle.standard.specs.Layout.{image_length, ermap_of, vol1_of, index_sectors, label_at, slot_count, k_at, body_size, kind_offset, body_offset, slot_ordinal, label_offset, kind_at, body_at, valid_mark}
-use Rattle.standard.specs.Volume.{relies}
-use Rattle.standard.specs.Defects.{defect1, defect2, skip_one, physical}
+use Rattle.standard.specs.Layout.{image_length, vol1_of, index_sectors, label_at, slot_count, k_at, body_size, kind_offset, body_offset, slot_ordinal, label_offset, kind_at, body_at, valid_mark}
+use Rattle.standard.specs.Defects.{skip_one, physical}
 use Rattle.standard.specs.Skips.{StopsAt, walked, walked_ordinal}
 use Rattle.standard.specs.Addresses.{ordinal, address_count, legal, rank}
 use Rattle.standard.specs.Labels.{known_level, name_of}
 use Rattle.standard.specs.Slots.{has_label, is_label}
-use Rattle.standard.specs.Judgement.{judged, volume_of, refusal1, refusal2, refusal3, refusal4}
+use Rattle.standard.specs.Judgement.{judged, volume_of, refusal1, refusal2}
 use Rattle.standard.specs.Free.{free_records, in_extent}
 use Rattle.standard.specs.Files.{extent, block_count, count_or, count_refusal, counted}
 use Rattle.standard.specs.Writing.{image_after}
@@ -33,7 +32,7 @@ use Rattle.standard.specs.declared.Counted.{Counted}
 use Rattle.standard.specs.declared.Counted.TheVariants.{Uncounted, Count}
 use Rattle.promises.specs.Ground.Basics.{never}
 use Rattle.promises.specs.Refusals.Refusing.{Exactly}
-use Rattle.promises.specs.Bounds.Vol1Named.{HoldBelow80, HoldBelow72}
+use Rattle.promises.specs.Bounds.VersionNamed.{HoldBelow80}
 use Rattle.promises.specs.Bounds.PackedLaws.{bits}
 use Rattle.promises.specs.Volumes.VolumeNumbers.{Numbers, numbers_of_lem, image_range}
 use Rattle.promises.specs.Volumes.Judging.{accepted as stages-of}
@@ -44,7 +43,7 @@ use Rattle.promises.specs.Volumes.FindingLaws.{find_slot as found-in-slot, slot_
 use Rattle.promises.specs.Volumes.FreeLaws.{extents_below}
 use Rattle.promises.specs.Images.Sectors.{AgreeOn, sector_of}
 use Rattle.promises.specs.Demands.{extents_in_range, extents_off_defects, sharing_no_record, extent_is, finding_gives, label_given, free_gives, locality, write_counts}
-use Rattle.promises.specs.Requested.{version_digit, version_refused, named_by_3, skip_is_walk, skip_is_any_walk, accepted_pair, stands_where_walked, number_skips, type_refused, older_numbers, older_length}
+use Rattle.promises.specs.Requested.{version_digit, version_refused, named_by_3, skip_is_walk, skip_is_any_walk, accepted_pair, stands_where_walked, number_skips}
 use Rattle.promises.specs.Instances.{demo, demo_volume, demo_bodies, demo_lengths, demo_old, demo_accepted, demo_version}
 use Rattle.demanded.specs.Calls.{Response, Meets, ByName, InSlot, named, in_slot, judge, find, find_slot, label_named_row, label_in_slot_row, free, count, contract, galz_judge, exported}
 
@@ -91,11 +90,6 @@ module _ (judger : List ℕ → Response Judged) (judges : Meets (contract judge
     pub has_version : at (vol1_of image) 80 ≡ byte "3"
     has_version = version_digit image g accepted
 
-    -- request 2026-06, "For those, one side, L 73, I 26, D 26, P 128 apply [..], an image of 258,258 bytes": of those whose VOL1 has a space or `1` at 72 (`relies`)
-    pub gives_iso_numbers : relies (vol1_of image) ≡ true
-        → (g ≡ record { L = 73; I = 26; D = 26; k = 0; P = 128; S = 1; d1 = defect1 (ermap_of image); d2 = defect2 (ermap_of image) }) × (length image ≡ 258258)
-    gives_iso_numbers older = older_numbers image older g accepted
-
     -- request 2026-03, "What it answers stays the same for every cylinder and pair of defects": with the numbers that it gives, the two comparisons (`physical`) lead to the
     -- cylinder at which a walk that counts good ones stops, as a loop (`walked`) and however it is written (`StopsAt`); and every address stands there
     pub skips_as_walked : (c : ℕ) → (walked g c ≡ physical g c) × ((n : ℕ) → 1 ≤ c → Exactly (n ≡ physical g c) (StopsAt g c n))
@@ -116,23 +110,6 @@ module _ (judger : List ℕ → Response Judged) (judges : Meets (contract judge
   pub three_names_these : (image : List ℕ) (r : Refusal) → (judger image).answer ≡ Refused r → r.number ≡ 3
       → one_of (1 ∷ 5 ∷ 11 ∷ 38 ∷ 72 ∷ 76 ∷ 77 ∷ 80 ∷ 81 ∷ 83 ∷ 85 ∷ 89 ∷ []) r.first ≡ true
   three_names_these image r h three = named_by_3 image r three (sym (judges image).0 ∙ h)
-
-  -- request 2026-06, "Refusals: 3 at 72 only for other characters" than `A`, a space and `1`; "5 for any other length" than 258,258, behind 1 to 4. (76 and 81-89 are not
-  -- judged then: Unseen, `older_fields_unseen`.)
-  pub refuses_type_exactly : (image : List ℕ) → Exactly ((judger image).answer ≡ Refused (refuse 3 72))
-      ((refusal1 image ≡ Passed) × (refusal2 image ≡ Passed) × HoldBelow72 (vol1_of image) × (at (vol1_of image) 72 ≡ byte "A" → ⊥)
-      × (at (vol1_of image) 72 ≡ byte " " → ⊥) × (at (vol1_of image) 72 ≡ byte "1" → ⊥))
-  refuses_type_exactly image =
-      let e = type_refused image in
-      let is = (judges image).0 in
-      ((λ h. e.0 (sym is ∙ h)), (λ f. is ∙ e.1 f))
-
-  pub refuses_older_length_exactly : (image : List ℕ) → relies (vol1_of image) ≡ true → Exactly ((judger image).answer ≡ Refused (refuse 5 0))
-      ((refusal1 image ≡ Passed) × (refusal2 image ≡ Passed) × (refusal3 (vol1_of image) ≡ Passed) × (refusal4 (vol1_of image) ≡ Passed) × (length image ≡ 258258 → ⊥))
-  refuses_older_length_exactly image older =
-      let e = older_length image older in
-      let is = (judges image).0 in
-      ((λ h. e.0 (sym is ∙ h)), (λ f. is ∙ e.1 f))
 
   -- one that takes the digit at either place: `demo` with `3` at 79 and a space at 80 is refused, and 80 is named
   pub no_either_place : (judger demo_old).answer ≡ Refused (refuse 3 80)

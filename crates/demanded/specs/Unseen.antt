@@ -1,20 +1,17 @@
 -- WHAT NO ANSWER HANGS ON, for a reader who proves nothing, of any functions that meet their rows of `Calls`: "check failed, body not trusted"; positions of sectors 01
--- to 07 that are not judged, 79 of VOL1 among them, and 76 and 81-89 where VOL1 relies on ISO 5654. The first lines of Called say how to read this. `EqualBut loose image
--- image'`: the images are equal but for what is loose, the bodies of check-failed sectors or some positions or both; they may be accepted or refused (Demands, its last
--- section, tells of it). `NoneJudged loose`: nothing that is loose is judged.
+-- to 07 that are not judged, 79 of VOL1 among them. The first lines of Called say how to read this. `EqualBut loose image image'`: the images are equal but for what is
+-- loose, the bodies of check-failed sectors or some positions or both; they may be accepted or refused (Demands, its last section, tells of it). `NoneJudged loose`:
+-- no rule judges a position that is loose.
 -- Assumes nothing.
-use Prim.Native.Nat.{ℕ, zero, suc, ◌+◌, ◌*◌, ◌<◌, ◌≤◌}
-use Rattle.std.specs.Prelude.{true, ◌≡◌, refl, List, [], ◌∷◌, length, get_or}
+use Prim.Native.Nat.{ℕ, zero, suc, ◌+◌, ◌*◌, ◌<◌}
+use Rattle.std.specs.Prelude.{◌≡◌, refl, List, [], ◌∷◌, length}
 use Rattle.std.proofs.Common.{sym, ◌∙◌, arith}
 use Rattle.std.proofs.Math.Path.{ap, subst}
 use Rattle.text.specs.Laid.{laid}
-use Rattle.standard.specs.Layout.{vol1_of}
-use Rattle.standard.specs.Volume.{relies}
 use Rattle.standard.specs.Writing.{splice}
-use Rattle.promises.specs.Images.Alike.{Loose, NoneJudged, positions_unjudged, Only, failed_bodies, EqualBut}
-use Rattle.promises.specs.Unseen.OlderAlike.{OlderNumbers, AsDescribed, describing}
+use Rattle.promises.specs.Images.Alike.{Loose, NoneJudged, Only, failed_bodies, EqualBut}
 use Rattle.promises.specs.Demands.{unseen_judged, unseen_found, unseen_counted, unseen_listed, unseen_read, unseen_written, unseen_created, unseen_deleted, unjudged_byte}
-use Rattle.promises.specs.Requested.{reserve_not_judged, older_not_judged, older_fields_any, as_described_not_judged, older_as_described, older_written_as_described, older_created_as_described, older_deleted_as_described}
+use Rattle.promises.specs.Requested.{reserve_not_judged}
 use Rattle.demanded.specs.Calls.{Response, Meets, named, in_slot, into, ask, give, want, Call, judge, find, find_slot, label_named_row, label_in_slot_row, free, count, list, write, create, delete, read, contract, Export, call_of, number_of, exported}
 use Rattle.demanded.specs.Called.{image_in}
 
@@ -135,7 +132,7 @@ pub trusts_no_failed_body : (c : Call) (f : (contract c).Input → Response (con
     → (i : (contract c).Input) (image image' : List ℕ) → EqualBut failed_bodies image image'
     → ((f (asked_of c i image)).answer ≡ (f (asked_of c i image')).answer)
     × LeftAlike failed_bodies (lends c) (f (asked_of c i image)).after (f (asked_of c i image')).after
-trusts_no_failed_body = looks_at_no_more failed_bodies (positions_unjudged _ _ (λ sector p none. absurd none))
+trusts_no_failed_body = looks_at_no_more failed_bodies (λ sector p none. absurd none)
 
 -- REQUEST 2026-02, "79 becomes reserved and is not judged": whatever byte is put at position 79 of VOL1, every call answers as before, and leaves an output as
 -- before; of images that are lent for change it leaves two that are equal but for that byte (`Only`: it is loose, no other and no body). VOL1's position p is byte
@@ -146,62 +143,6 @@ pub reserve_at_79 : (c : Call) (f : (contract c).Input → Response (contract c)
     × LeftAlike (Only 7 79) (lends c) (f (asked_of c i image)).after (f (asked_of c i (splice (6 * 129 + 79) (x ∷ []) image))).after
 reserve_at_79 c f meets i image x inside =
     looks_at_no_more (Only 7 79) reserve_not_judged c f meets i image _ (unjudged_byte image 7 79 x (omega arith) (omega arith) (omega arith) (omega arith) inside)
-
--- REQUEST 2026-06, "Positions 76 and 81-89 are then not judged": whatever bytes stand there, of an image whose VOL1 relies on ISO 5654, every call answers as before
--- (`OlderNumbers`: these are loose then).
-pub older_fields_unseen : (c : Call) (f : (contract c).Input → Response (contract c).Result) → Meets (contract c) f
-    → (i : (contract c).Input) (image image' : List ℕ) → relies (vol1_of image) ≡ true → length image ≡ length image'
-    → ((k : ℕ) → (k ≡ 6 * 129 + 76 → ⊥) → (6 * 129 + 81 ≤ k → k ≤ 6 * 129 + 89 → ⊥) → get_or image k 0 ≡ get_or image' k 0)
-    → ((f (asked_of c i image)).answer ≡ (f (asked_of c i image')).answer)
-    × LeftAlike OlderNumbers (lends c) (f (asked_of c i image)).after (f (asked_of c i image')).after
-older_fields_unseen c f meets i image image' older size elsewhere =
-    looks_at_no_more OlderNumbers older_not_judged c f meets i image image' (older_fields_any image image' older size elsewhere)
-
--- AN OLDER VOLUME IS THE DESCRIBED ONE: every call answers a question of an image whose VOL1 relies on ISO 5654 as it answers it of the same image with `A` at 72, a space
--- at 76, `491A1A` at 81-86 and `1` at 89 of VOL1 (`describing`), and leaves the same output; an image that it changes it leaves as the described one, described. (Below
--- 903 bytes every image is refused 1.)
-abbrev pub LeftDescribed : Lent → List ℕ → List ℕ → Type 0
-LeftDescribed nothing after after' = after ≡ after'
-LeftDescribed an_output after after' = after ≡ after'
-LeftDescribed the_image after after' = after' ≡ describing after
-
-module _ (image : List ℕ) (older : relies (vol1_of image) ≡ true) (long : 903 ≤ length image) where
-  rows_described : (c : Call) (i : (contract c).Input)
-      → LeftDescribed (lends c) ((contract c).left (asked_of c i image)) ((contract c).left (asked_of c i (describing image)))
-  rows_described judge i = refl
-  rows_described find i = refl
-  rows_described find_slot i = refl
-  rows_described label_named_row i = refl
-  rows_described label_in_slot_row i = refl
-  rows_described free i = refl
-  rows_described count i = refl
-  rows_described list i = rows_leave AsDescribed as_described_not_judged list i image (describing image) (older_as_described image older long)
-  rows_described (read m) i = rows_leave AsDescribed as_described_not_judged (read m) i image (describing image) (older_as_described image older long)
-  rows_described write i = older_written_as_described image older long i.slot i.bodies i.lengths
-  rows_described create i = older_created_as_described image older long i.fields i.records
-  rows_described delete i = older_deleted_as_described image older long i.slot
-
-  described_through : (l : Lent) (after after' left left' : List ℕ) → after ≡ left → after' ≡ left' → LeftDescribed l left left' → LeftDescribed l after after'
-  described_through l after after' left left' p q a =
-      subst (λ (x : List ℕ). LeftDescribed l x after') (sym p) (subst (LeftDescribed l left) (sym q) a)
-
-  pub answers_as_described : (c : Call) (f : (contract c).Input → Response (contract c).Result) → Meets (contract c) f → (i : (contract c).Input)
-      → ((f (asked_of c i image)).answer ≡ (f (asked_of c i (describing image))).answer)
-      × LeftDescribed (lends c) (f (asked_of c i image)).after (f (asked_of c i (describing image))).after
-  answers_as_described c f meets i = (
-    (looks_at_no_more AsDescribed as_described_not_judged c f meets i image (describing image) (older_as_described image older long)).0,
-    described_through (lends c) _ _ _ _ (meets (asked_of c i image)).1 (meets (asked_of c i (describing image))).1 (rows_described c i),
-  )
-
-  -- and so does every export for C
-  pub exports_answer_as_described : (x : Export) (f : (exported x).Input → Response ℕ) → Meets (exported x) f → (i : (exported x).Input)
-      → ((f (asked_of (call_of x) i image)).answer ≡ (f (asked_of (call_of x) i (describing image))).answer)
-      × LeftDescribed (lends (call_of x)) (f (asked_of (call_of x) i image)).after (f (asked_of (call_of x) i (describing image))).after
-  exports_answer_as_described x f meets i =
-      let c = call_of x in (
-        (exports_look_at_no_more AsDescribed as_described_not_judged x f meets i image (describing image) (older_as_described image older long)).0,
-        described_through (lends c) _ _ _ _ (meets (asked_of c i image)).1 (meets (asked_of c i (describing image))).1 (rows_described c i),
-      )
 
 -- ======== ANY ROW OF CALLS
 -- A caller asks one question after the other, each of the image as the calls before left it, and chooses each by all that he has heard so far: `Asking` is a call and

@@ -174,13 +174,7 @@ pub fn delete_number(image: &mut [u8], slot: u64) -> u64
     galzeranta::galz_delete(image, slot)
 }
 
-// The moves of an address and a place, and the numbers of ISO 5654.
-
-pub fn geometry_iso_5654() -> Geometry
-    ensures { Allows (moved Calls.geometry_iso_5654) tt result [] }
-{
-    Geometry::iso_5654()
-}
+// The moves of an address and a place.
 
 pub fn address_first() -> Address
     ensures { Allows (moved Calls.address_first) tt result [] }

@@ -9,14 +9,14 @@ use native.Mathlib.Omega.{arith}
 use borrow.Author.Tests.{le-leb, lt-leb, eq-eqb, ne_eqb}
 use Rattle.standard.specs.Characters.{at, between, field, every, is_digit, digits, digit_value, number, number_from, hex, spaces}
 use Rattle.standard.specs.Rules.{lowest_fault}
-use Rattle.standard.specs.Volume.{iso5654, relies, unless_relies, vol1_rules, k_in}
+use Rattle.standard.specs.Volume.{vol1_rules, volume_l, volume_i, volume_d, volume_k, volume_s}
 use Rattle.standard.specs.Defects.{is_cylinder, cylinder_in, ermap_rule7, ermap_rule11, ermap_rules, defect_in, defect1, defect2}
 use Rattle.standard.specs.declared.Geometry.{Geometry}
-use Rattle.numbers.specs.Numbers.{bare, described, bare_relies, bare_described, defected}
+use Rattle.numbers.specs.Numbers.{defected}
 use Rattle.fields.proofs.LoopLaws.{digit_most}
 use Rattle.promises.specs.Ground.Basics.{either, lt_or_le, by_test, and_l, and_r, or_rest}
 use Rattle.promises.specs.Volumes.Judging.{rows_each}
-use Rattle.promises.specs.Volumes.VolumeNumbers.{hex_bounds, kinds_few, field_rules}
+use Rattle.promises.specs.Volumes.VolumeNumbers.{hex_bounds, kinds_few}
 
 -- "d2 ≤ L+1", without the sum
 pub at_most : (d l : ℕ) → leb (d - 1) l ≡ leb d (l + 1)
@@ -25,45 +25,32 @@ at_most d l =
     (λ (h : l + 1 < d). lt-leb (d - 1) l (omega arith) ∙ sym (lt-leb d (l + 1) h))
     (λ (h : d ≤ l + 1). le-leb (d - 1) l (omega arith) ∙ sym (le-leb d (l + 1) h))
 
--- VOL1: the numbers of the fields of a label that describes the volume
+-- VOL1
 pub record Small (v : List ℕ) : Type 0 where
-  pub l : hex (field v 81 82) < 256
-  pub i : hex (field v 83 84) < 256
-  pub d : hex (field v 85 86) < 256
-  pub k : k_in (at v 76) ≤ 3
-  pub s : hex (field v 89 89) < 256
+  pub l : volume_l v < 256
+  pub i : volume_i v < 256
+  pub d : volume_d v < 256
+  pub k : volume_k v ≤ 3
+  pub s : volume_s v < 256
 
-pub vol1_small : (v : List ℕ) → relies v ≡ false → lowest_fault (vol1_rules v) ≡ 0 → Small v
-vol1_small v o z =
-    let r = field_rules v o z in
+pub vol1_small : (v : List ℕ) → lowest_fault (vol1_rules v) ≡ 0 → Small v
+unfolding vol1_rules
+vol1_small v z =
+    let (r1, (r5, (r11, (r38, (r72, (r76, (r77, (r80, (r81, (r83, (r85, (r89, _)))))))))))) = rows_each _ z refl in
     record {
-      l = omega (arith, hex_bounds 1 96 (field v 81 82) r.cylinders);
-      i = omega (arith, hex_bounds 8 26 (field v 83 84) r.index);
-      d = omega (arith, hex_bounds 1 26 (field v 85 86) r.sectors);
-      k = kinds_few (at v 76) r.size;
-      s = omega (arith, hex_bounds 1 2 (field v 89 89) r.sides);
+      l = omega (arith, hex_bounds 1 96 (field v 81 82) r81);
+      i = omega (arith, hex_bounds 8 26 (field v 83 84) r83);
+      d = omega (arith, hex_bounds 1 26 (field v 85 86) r85);
+      k = kinds_few (at v 76) r76;
+      s = omega (arith, hex_bounds 1 2 (field v 89 89) r89);
     }
 
-module _ (c r : ℕ) where
-  pub kind_space : c ≡ 32 → r ≡ 0 → r ≡ k_in c
-  kind_space h e = simp (eq-eqb c 32 h) e
+module _ (v : List ℕ) (r : ℕ) where
+  pub kind_space : at v 76 ≡ 32 → r ≡ 0 → r ≡ volume_k v
+  kind_space h e = simp (eq-eqb (at v 76) 32 h) e
 
-  pub kind_digit : (c ≡ 32 → ⊥) → r ≡ digit_value c → r ≡ k_in c
-  kind_digit h e = simp (ne_eqb c 32 h) e
-
--- a rule that is not judged on a label that relies on ISO 5654: what the code asks of both
-pub unless_read : {a b : Bool} (v : List ℕ) (rule : Bool) → a ≡ relies v → b ≡ rule → (a || b) ≡ unless_relies v rule
-unless_read v rule e f = rw (e, f)
-
--- which numbers apply
-pub is_described : {a : Bool} (v : List ℕ) → a ≡ relies v → a ≡ false → relies v ≡ false
-is_described v e d = sym e ∙ d
-
-pub numbers_older : {a : Bool} {r : Geometry} (v : List ℕ) → a ≡ relies v → a ≡ true → r ≡ iso5654 → r ≡ bare v
-numbers_older v e o q = q ∙ bare_relies v (sym e ∙ o)
-
-pub numbers_described : {a : Bool} {r : Geometry} (v : List ℕ) → a ≡ relies v → a ≡ false → r ≡ described v → r ≡ bare v
-numbers_described v e d q = q ∙ bare_described v (sym e ∙ d)
+  pub kind_digit : (at v 76 ≡ 32 → ⊥) → r ≡ digit_value (at v 76) → r ≡ volume_k v
+  kind_digit h e = simp (ne_eqb (at v 76) 32 h) e
 
 pub size_is : (n k : ℕ) → n ≡ k → 128 * 2 ^ n ≡ 128 * 2 ^ k
 size_is n k e = ap (λ (x : ℕ). 128 * 2 ^ x) e

@@ -1,15 +1,15 @@
 // VOL1 and ERMAP: which of their rules is broken, and the numbers that they give a volume. A label is the 128 bytes of its sector; all functions serve the
 // layers above (inner).
-ghost use Rattle.std.specs.Prelude.{◌≡◌, ◌&&◌, ◌||◌, not, false, [], ◌∷◌, ◌+◌, ◌-◌, ◌*◌, ◌^◌, ◌<◌, ◌≤◌, length, get_or, take, drop, ltb, leb};
-ghost use Rattle.standard.specs.Characters.{bytes, between, one_of, same, field, at, in_a_set, spaces, is_hex, hex};
+ghost use Rattle.std.specs.Prelude.{◌≡◌, ◌&&◌, ◌||◌, not, [], ◌∷◌, ◌+◌, ◌-◌, ◌*◌, ◌^◌, ◌<◌, ◌≤◌, length, get_or, take, drop, ltb, leb};
+ghost use Rattle.standard.specs.Characters.{bytes, between, one_of, same, field, in_a_set, spaces, is_hex, hex};
 ghost use Rattle.standard.specs.Rules.{lowest_fault};
-ghost use Rattle.standard.specs.Volume.{relies, unless_relies, vol1_rules, hex_between, k_in};
+ghost use Rattle.standard.specs.Volume.{vol1_rules, hex_between, volume_k};
 ghost use Rattle.standard.specs.Defects.{is_cylinder, cylinder_in, ermap_rules, defect_in};
-ghost use Rattle.numbers.specs.Numbers.{bare, described, defected};
+ghost use Rattle.numbers.specs.Numbers.{bare, defected};
 
 use fields::{
     Class, Perhaps, all_of, decimal_in, hex_1, hex_2, in_a_set, in_range, is, is_hex, minus,
-    number_2, one_of_1, one_of_2, one_of_3, one_of_4, same_as, spaces_or_number,
+    number_2, one_of_1, one_of_4, same_as, spaces_or_number,
 };
 use standard::{Geometry, digit, wide};
 
@@ -35,42 +35,12 @@ fn hex_digit_between(low: u64, high: u64, f: &[u8]) -> bool
     hex_at(f, 0) & in_range(low, high, hex_1(f))
 }
 
-// 2026-06: "Older senders leave position 72 blank or write 1 and rely on ISO 5654."
-fn is_older(v: &[u8]) -> bool
-    requires { length v.now ≡ 128 }
-    ensures { result ≡ relies v.now }
-{
-    one_of_2(wide(v[71]), 32, 49)
-}
-
-// "3 at 72 only for other characters" than `A`, a space and `1`.
-fn type_right(v: &[u8]) -> bool
-    requires { length v.now ≡ 128 }
-    ensures { result ≡ one_of (bytes "A 1") (at v.now 72) }
-{
-    one_of_3(wide(v[71]), 65, 32, 49)
-}
-
-// "Positions 76 and 81-89 are then not judged": the rule of 76; that of two digits, which stand from a on and end before e; that of 89.
-fn size_right(v: &[u8]) -> bool
-    requires { length v.now ≡ 128 }
-    ensures { result ≡ unless_relies v.now (one_of (bytes " 123") (at v.now 76)) }
-{
-    is_older(v) | one_of_4(wide(v[75]), 32, 49, 50, 51)
-}
-
-fn hex_right(v: &[u8], a: usize, e: usize, low: u64, high: u64) -> bool
+// The same of two digits of a label, which stand from a on and end before e.
+fn hex_in(v: &[u8], a: usize, e: usize, low: u64, high: u64) -> bool
     requires { (length v.now ≡ 128) × (e ≤ 128) × (e ≡ a + 2) }
-    ensures { result ≡ unless_relies v.now (hex_between low high (take (e - a) (drop a v.now))) }
+    ensures { result ≡ hex_between low high (take (e - a) (drop a v.now)) }
 {
-    is_older(v) | hex_between(low, high, &v[a..e])
-}
-
-fn sides_right(v: &[u8]) -> bool
-    requires { length v.now ≡ 128 }
-    ensures { result ≡ unless_relies v.now (hex_between 1 2 (field v.now 89 89)) }
-{
-    is_older(v) | hex_digit_between(1, 2, &v[88..89])
+    hex_between(low, high, &v[a..e])
 }
 
 // "81-82 hex L, 1-96; 83-84 hex I, 8-26; 85-86 hex D, 1-26; 89 hex S, 1-2."
@@ -78,16 +48,16 @@ fn vol1_fault_from_81(v: &[u8]) -> u64
     requires { length v.now ≡ 128 }
     ensures { result ≡ lowest_fault (drop 8 (vol1_rules v.now)) }
 {
-    if !hex_right(v, 80, 82, 1, 96) {
+    if !hex_in(v, 80, 82, 1, 96) {
         return 81;
     }
-    if !hex_right(v, 82, 84, 8, 26) {
+    if !hex_in(v, 82, 84, 8, 26) {
         return 83;
     }
-    if !hex_right(v, 84, 86, 1, 26) {
+    if !hex_in(v, 84, 86, 1, 26) {
         return 85;
     }
-    if !sides_right(v) {
+    if !hex_digit_between(1, 2, &v[88..89]) {
         return 89;
     }
     0
@@ -101,15 +71,15 @@ fn char_is(v: &[u8], i: usize, x: u64) -> bool
     one_of_1(wide(v[i]), x)
 }
 
-// "76 space, 1, 2, 3 for P = 128, 256, 512, 1024; 77-78 spaces or 01-13"; 2026-02: "Position 80 must be `3`; 79 becomes reserved and is not judged."
+// "72 `A`; 76 space, 1, 2, 3 for P = 128, 256, 512, 1024; 77-78 spaces or 01-13"; 2026-02: "Position 80 must be `3`; 79 becomes reserved and is not judged."
 fn vol1_fault_from_72(v: &[u8]) -> u64
     requires { length v.now ≡ 128 }
     ensures { result ≡ lowest_fault (drop 4 (vol1_rules v.now)) }
 {
-    if !type_right(v) {
+    if !char_is(v, 71, 65) {
         return 72;
     }
-    if !size_right(v) {
+    if !one_of_4(wide(v[75]), 32, 49, 50, 51) {
         return 76;
     }
     if !spaces_or_number(1, 13, &v[76..78]) {
@@ -160,7 +130,7 @@ pub fn vol1_fault(v: &[u8]) -> u64
 // "76 space, 1, 2, 3": k.
 fn kind_in(v: &[u8]) -> u64
     requires { length v.now ≡ 128 }
-    ensures { result ≡ k_in (at v.now 76) }
+    ensures { result ≡ volume_k v.now }
 {
     let c = wide(v[75]);
     if c == 32 {
@@ -200,10 +170,10 @@ fn record_size(k: u64) -> u16
     1024
 }
 
-// The numbers of a VOL1 without a fault that describes the volume.
-fn described_numbers(v: &[u8]) -> Geometry
-    requires { (length v.now ≡ 128) × (lowest_fault (vol1_rules v.now) ≡ 0) × (relies v.now ≡ false) }
-    ensures { result ≡ described v.now }
+// The numbers of a VOL1 without a fault.
+pub fn vol1_numbers(v: &[u8]) -> Geometry
+    requires { (length v.now ≡ 128) × (lowest_fault (vol1_rules v.now) ≡ 0) }
+    ensures { result ≡ bare v.now }
 {
     let k = kind_in(v);
     Geometry {
@@ -216,17 +186,6 @@ fn described_numbers(v: &[u8]) -> Geometry
         d1: 0,
         d2: 0,
     }
-}
-
-// The numbers of a VOL1 without a fault. "For those [of older senders], one side, L 73, I 26, D 26, P 128 apply"
-pub fn vol1_numbers(v: &[u8]) -> Geometry
-    requires { (length v.now ≡ 128) × (lowest_fault (vol1_rules v.now) ≡ 0) }
-    ensures { result ≡ bare v.now }
-{
-    if is_older(v) {
-        return Geometry::iso_5654();
-    }
-    described_numbers(v)
 }
 
 // A cylinder "and `0`".

@@ -60,7 +60,7 @@ use Rattle.promises.specs.Writing.WrittenLabel.{records_some}
 use Rattle.promises.specs.Salvage.SalvagedHeard.{SalvageHeardPromise, salvage_heard_promise, NeverJoinedAnyPromise, never_joined_any_promise}
 use Rattle.promises.specs.Salvage.SalvageImage.{only_blocks}
 use Rattle.promises.specs.Reading.Runs.{Stands, record_stands}
-use Rattle.promises.specs.Images.Alike.{Loose, NoneJudged, AtPositions, Only, SectorsKnown, EqualBut}
+use Rattle.promises.specs.Images.Alike.{Loose, NoneJudged, Only, SectorsKnown, EqualBut}
 use Rattle.promises.specs.Unseen.JudgedAlike.{judged_alike, equal_swap}
 use Rattle.promises.specs.Unseen.AnswersAlike.{found_alike, found_at_alike, label_named_alike, label_in_alike, free_alike, counted_alike, reply_alike, listing_alike}
 use Rattle.promises.specs.Unseen.LeftAlike.{failed_body_any, unjudged_any}
@@ -355,8 +355,7 @@ locality image image' g g' slot j j' index extents =
 -- ======== WHAT NO ANSWER HANGS ON
 -- "Kind 32+k: check failed, body not trusted"; "sectors 01-04 and 06 are not judged beyond kind"; of VOL1 "all other positions are not judged", and 2026-02: "79
 -- becomes reserved and is not judged". `EqualBut loose image image'`: the images have one length and the same bytes, but for what is loose: the bodies of check-failed
--- sectors, if those are, whose kinds are the same; and bodies of sectors 01 to 07 that pass for one another. Nothing that is loose is judged (`NoneJudged`) if labels
--- that pass for one another say the same: so it is with any set of positions that no rule judges (`AtPositions`, `Unjudged`; `positions_unjudged`). (In Alike.
+-- sectors, if those are, whose kinds are the same; and positions of sectors 01 to 07, any set of which no rule judges one (`NoneJudged`, `Unjudged`). (In Alike.
 -- Sectors 01 to 07 are compared on any image; the others where none of the refusals 1 to 5 is given, `SectorsKnown`: only then is it known where they lie.) Two such
 -- images, accepted or refused, get equal answers to every call, and a call that changes them leaves two such images again. So whatever is asked of them, in whatever
 -- order, no answer depends on a body that is not trusted or on a position that is not judged.
@@ -396,13 +395,12 @@ module _ (loose : Loose) (none-judged : NoneJudged loose) (image image' : List �
 
 -- Which images these are: the other way round it is the same; and, where bodies are loose, whatever bytes are laid over the body of a check-failed sector (`splice`:
 -- from an offset on), the image before and the image after are two of them; also of a slot's, for which the volume is refused.
-pub unseen_either_way : (positions : ℕ → ℕ → Type 0) (bodies : Type 0) → NoneJudged (AtPositions positions bodies)
-    → (image image' : List ℕ) → EqualBut (AtPositions positions bodies) image image' → EqualBut (AtPositions positions bodies) image' image
+pub unseen_either_way : (loose : Loose) → NoneJudged loose → (image image' : List ℕ) → EqualBut loose image image' → EqualBut loose image' image
 unseen_either_way = equal_swap
 
-pub untrusted_body : (positions : ℕ → ℕ → Type 0) (bodies : Type 0) → bodies → (image : List ℕ) (n : ℕ) (bytes : List ℕ) → SectorsKnown image
-    → n < sector_count (volume_of image) → check_failed (volume_of image) image n ≡ true → length bytes ≡ body_size (volume_of image) n
-    → EqualBut (AtPositions positions bodies) image (splice (body_offset (volume_of image) n) bytes image)
+pub untrusted_body : (loose : Loose) → loose.bodies → (image : List ℕ) (n : ℕ) (bytes : List ℕ) → SectorsKnown image → n < sector_count (volume_of image)
+    → check_failed (volume_of image) image n ≡ true → length bytes ≡ body_size (volume_of image) n
+    → EqualBut loose image (splice (body_offset (volume_of image) n) bytes image)
 untrusted_body = failed_body_any
 
 -- and so are an image and what it becomes if any byte is put at a position of sector 01 to 07, that position alone being loose (`Only`)

@@ -1,10 +1,9 @@
--- The image: data addresses, and the sectors that they are in; what is not judged of sectors 01 to 07, the labels VOL1 that say the same of which one or both rely
--- on ISO 5654, and images equal but for such bytes and for bodies that are not trusted; every byte in one sector.
+-- The image: data addresses, and the sectors that they are in; what is not judged of sectors 01 to 07, and images equal but for that and for bodies that are not
+-- trusted; every byte in one sector.
 pub mod AddressLaws
 pub mod Tiling
 pub mod Sectors
 pub mod SectorLaws
 pub mod Unjudged
-pub mod OlderLabels
 pub mod Alike
 pub mod ByteSectors

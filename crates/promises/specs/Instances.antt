@@ -7,7 +7,7 @@ use mathlib.Core.List.{List, [], ◌∷◌, ◌++◌, map, flatten}
 use Rattle.standard.specs.Characters.{one_of, same, every, a_set, is_digit, digit_value, number_from, is_hex, hex_value, hex_from, bytes, spaces_or_number, padded, shown_by}
 use Rattle.standard.specs.Refusals.{in_order, or_else, given_when, refuse}
 use Rattle.standard.specs.Layout.{ordinal_at, sector_count, k_at, body_size, kind_offset, body_offset, image_length, kind_at, body_at, first_byte, valid_mark, incorrect_mark, check_failed, index_kind, index_body, slot_count, slot_ordinal, label_offset, label_at}
-use Rattle.standard.specs.Volume.{relies, vol1_rules}
+use Rattle.standard.specs.Volume.{vol1_rules}
 use Rattle.standard.specs.Defects.{ermap_rules, ermap_rule7, ermap_rule11, skip_one, physical}
 use Rattle.standard.specs.Addresses.{address_of, five_digits, address_in, five_read, legal, rank, before, stepped, past_last, is_address, is_data_end, ordinal}
 use Rattle.standard.specs.Labels.{known_level, another_level, format_of, record_length, unused_count, rule44, rule6, rule29, rule35, rule40, rule23, rule63, rule41, rule42, rule43, rule45, rule64, rule73, rule46, spaces_or_date, rule48, rule67, rule54, rule58, rule75, hdr1_rules, label_fault, variable, spanned}
@@ -113,7 +113,7 @@ pub computed : (judged image ≡ Volume geometry)
     -- blocks move by one record, and salvage gives B, C. (docs/DECISIONS.md, 7.12)
     × (following 3 plain with_defect 1 (replicate 256 255) start ≡ told (of128 65 ++ of128 66) ∷ told (of128 67 ++ of128 68) ∷ done ∷ [])
     × (following 3 salvage (failed_at defect_volume 8 with_defect) 1 (replicate 256 255) start ≡ gap_at 0 ∷ told (of128 66 ++ of128 67) ∷ done ∷ [])
-unfolding with_defect image one_of same every a_set is_digit digit_value number_from spaces_or_number is_hex hex_value hex_from given_when in_order or_else lowest_fault ordinal_at sector_count k_at body_size kind_offset body_offset image_length kind_at body_at first_byte valid_mark incorrect_mark check_failed index_kind index_body slot_count slot_ordinal label_offset label_at relies vol1_rules ermap_rules ermap_rule7 ermap_rule11 rule41 rule42 rule43 rule45 rule64 rule73 skip_one physical five_digits address_in five_read legal rank before stepped past_last is_address is_data_end ordinal known_level another_level format_of record_length unused_count rule44 rule6 rule29 rule35 rule40 rule23 rule63 rule46 spaces_or_date rule48 rule67 rule54 rule58 rule75 hdr1_rules label_fault is_label is_deleted is_unreadable slot_refusal slots_from has_label numbers_in legal_kind kinds_from clashes_below clashes_from overlap shares same_name namesake volume_refusal judged addresses_from extent_size extent is_defective good_among good_records records_to_block good_before data_end_at_start data_end_in_extent blocks_held block_count is_wrong wrong_among splits_block count_refusal counted open_refusal any_failed bytes_of block_of blocks_from file_in file_at first_met step in_file read_on enough read_all join listed number4 role_of look_f look_v look_s look walk pieces in_block in_blocks ahead reply_in reply laid_over following failed_at sector_of records_of any_hit gone among
+unfolding with_defect image one_of same every a_set is_digit digit_value number_from spaces_or_number is_hex hex_value hex_from given_when in_order or_else lowest_fault ordinal_at sector_count k_at body_size kind_offset body_offset image_length kind_at body_at first_byte valid_mark incorrect_mark check_failed index_kind index_body slot_count slot_ordinal label_offset label_at vol1_rules ermap_rules ermap_rule7 ermap_rule11 rule41 rule42 rule43 rule45 rule64 rule73 skip_one physical five_digits address_in five_read legal rank before stepped past_last is_address is_data_end ordinal known_level another_level format_of record_length unused_count rule44 rule6 rule29 rule35 rule40 rule23 rule63 rule46 spaces_or_date rule48 rule67 rule54 rule58 rule75 hdr1_rules label_fault is_label is_deleted is_unreadable slot_refusal slots_from has_label numbers_in legal_kind kinds_from clashes_below clashes_from overlap shares same_name namesake volume_refusal judged addresses_from extent_size extent is_defective good_among good_records records_to_block good_before data_end_at_start data_end_in_extent blocks_held block_count is_wrong wrong_among splits_block count_refusal counted open_refusal any_failed bytes_of block_of blocks_from file_in file_at first_met step in_file read_on enough read_all join listed number4 role_of look_f look_v look_s look walk pieces in_block in_blocks ahead reply_in reply laid_over following failed_at sector_of records_of any_hit gone among
 computed = (refl, refl, refl, refl, omega arith, omega arith, refl, refl, refl, refl, refl)
 
 -- THE PROMISE OF SALVAGE HOLDS OF SOMETHING: its premises are met by this image and this failure
@@ -170,7 +170,7 @@ demo_lengths = 5 ∷ 3 ∷ []
 
 pub demo_accepted : (length demo ≡ 1548) × (judged demo ≡ Volume demo_volume) × (write_refusal demo_volume demo 1 demo_bodies demo_lengths ≡ Passed)
     × (written demo 1 demo_bodies demo_lengths ≡ Blocks 1)
-unfolding one_of same every a_set is_digit digit_value number_from spaces_or_number is_hex hex_value hex_from padded shown_by given_when in_order or_else lowest_fault ordinal_at sector_count k_at body_size kind_offset body_offset image_length kind_at body_at first_byte valid_mark incorrect_mark check_failed index_kind index_body slot_count slot_ordinal label_offset label_at relies vol1_rules ermap_rules ermap_rule7 ermap_rule11 rule41 rule42 rule43 rule45 rule64 rule73 skip_one physical five_digits address_in five_read legal rank before stepped past_last is_address is_data_end ordinal known_level another_level format_of record_length unused_count rule44 rule6 rule29 rule35 rule40 rule23 rule63 rule46 spaces_or_date rule48 rule67 rule54 rule58 rule75 hdr1_rules label_fault is_label is_deleted is_unreadable slot_refusal slots_from has_label numbers_in legal_kind kinds_from clashes_below clashes_from overlap shares same_name namesake volume_refusal judged addresses_from extent_size extent is_defective good_among good_records records_to_block good_before data_end_at_start data_end_in_extent blocks_held block_count is_wrong wrong_among splits_block count_refusal counted open_refusal any_failed bytes_of block_of blocks_from file_in file_at flatten unused_in lay_f record_v lay_one lay_v segment spread lay_s pack file_of total parted wrong_length lengths_from packing write_refusal splice filled_to store_record store_block store_blocks next_data_end data_end_after set_label image_with outcome
+unfolding one_of same every a_set is_digit digit_value number_from spaces_or_number is_hex hex_value hex_from padded shown_by given_when in_order or_else lowest_fault ordinal_at sector_count k_at body_size kind_offset body_offset image_length kind_at body_at first_byte valid_mark incorrect_mark check_failed index_kind index_body slot_count slot_ordinal label_offset label_at vol1_rules ermap_rules ermap_rule7 ermap_rule11 rule41 rule42 rule43 rule45 rule64 rule73 skip_one physical five_digits address_in five_read legal rank before stepped past_last is_address is_data_end ordinal known_level another_level format_of record_length unused_count rule44 rule6 rule29 rule35 rule40 rule23 rule63 rule46 spaces_or_date rule48 rule67 rule54 rule58 rule75 hdr1_rules label_fault is_label is_deleted is_unreadable slot_refusal slots_from has_label numbers_in legal_kind kinds_from clashes_below clashes_from overlap shares same_name namesake volume_refusal judged addresses_from extent_size extent is_defective good_among good_records records_to_block good_before data_end_at_start data_end_in_extent blocks_held block_count is_wrong wrong_among splits_block count_refusal counted open_refusal any_failed bytes_of block_of blocks_from file_in file_at flatten unused_in lay_f record_v lay_one lay_v segment spread lay_s pack file_of total parted wrong_length lengths_from packing write_refusal splice filled_to store_record store_block store_blocks next_data_end data_end_after set_label image_with outcome
 demo_accepted = (refl, refl, refl, refl)
 
 -- THE PROMISES OF WRITING SAY SOMETHING: the two records are read back
@@ -189,7 +189,7 @@ abbrev pub demo_old : List ℕ
 demo_old = splice (6 * 129 + 79) (bytes "3 ") demo
 
 pub demo_version : (judged demo_old ≡ Refused (refuse 3 80)) × (judged (splice (6 * 129 + 79) (bytes "33") demo) ≡ Volume demo_volume)
-unfolding one_of same every a_set is_digit digit_value number_from spaces_or_number is_hex hex_value hex_from padded given_when in_order or_else lowest_fault sector_count k_at body_size kind_offset body_offset image_length kind_at body_at first_byte valid_mark incorrect_mark check_failed index_kind index_body slot_count slot_ordinal label_offset label_at relies vol1_rules ermap_rules ermap_rule7 ermap_rule11 rule41 rule42 rule43 rule45 rule64 rule73 five_digits address_in address_of legal rank before past_last is_address is_data_end known_level another_level format_of record_length unused_count rule44 rule6 rule29 rule35 rule40 rule23 rule63 rule46 spaces_or_date rule48 rule67 rule54 rule58 rule75 hdr1_rules label_fault is_label is_deleted is_unreadable slot_refusal slots_from has_label numbers_in legal_kind kinds_from clashes_below clashes_from overlap shares same_name namesake volume_refusal judged splice
+unfolding one_of same every a_set is_digit digit_value number_from spaces_or_number is_hex hex_value hex_from padded given_when in_order or_else lowest_fault sector_count k_at body_size kind_offset body_offset image_length kind_at body_at first_byte valid_mark incorrect_mark check_failed index_kind index_body slot_count slot_ordinal label_offset label_at vol1_rules ermap_rules ermap_rule7 ermap_rule11 rule41 rule42 rule43 rule45 rule64 rule73 five_digits address_in address_of legal rank before past_last is_address is_data_end known_level another_level format_of record_length unused_count rule44 rule6 rule29 rule35 rule40 rule23 rule63 rule46 spaces_or_date rule48 rule67 rule54 rule58 rule75 hdr1_rules label_fault is_label is_deleted is_unreadable slot_refusal slots_from has_label numbers_in legal_kind kinds_from clashes_below clashes_from overlap shares same_name namesake volume_refusal judged splice
 demo_version = (refl, refl)
 
 -- THE PROMISES OF REQUEST 2026-01 SAY SOMETHING: on the third image the file is deleted and made again, of one record; of two there is no room, and before the
@@ -208,7 +208,7 @@ pub demo_made : (created demo demo_fields 1 ≡ Uncreated (refuse 12 1))
     × (created (image_after_delete demo 1) demo_fields 2 ≡ Uncreated (refuse 29 0))
     × (created (image_after_delete demo 1) demo_fields 1 ≡ Placed 1 (address_in (bytes "01001")))
     × (image_after_create (image_after_delete demo 1) demo_fields 1 ≡ demo)
-unfolding one_of same every a_set is_digit digit_value number_from spaces_or_number is_hex hex_value hex_from padded given_when in_order or_else lowest_fault sector_count k_at body_size kind_offset body_offset image_length kind_at body_at first_byte valid_mark incorrect_mark check_failed index_kind index_body slot_count slot_ordinal label_offset label_at relies vol1_rules ermap_rules ermap_rule7 ermap_rule11 rule41 rule42 rule43 rule45 rule64 rule73 five_digits address_in address_of legal rank before past_last is_address is_data_end known_level another_level format_of record_length unused_count rule44 rule6 rule29 rule35 rule40 rule23 rule63 rule46 spaces_or_date rule48 rule67 rule54 rule58 rule75 hdr1_rules label_fault is_label is_deleted is_unreadable slot_refusal slots_from has_label numbers_in legal_kind kinds_from clashes_below clashes_from overlap shares same_name namesake volume_refusal judged extent_size is_named found_from in_extent taken splice proposed proposed_rules proposal_fault deleted_from lowest_deleted free_run run_from lowest_run create_refusal store_slot image_created creation delete_refusal deletion
+unfolding one_of same every a_set is_digit digit_value number_from spaces_or_number is_hex hex_value hex_from padded given_when in_order or_else lowest_fault sector_count k_at body_size kind_offset body_offset image_length kind_at body_at first_byte valid_mark incorrect_mark check_failed index_kind index_body slot_count slot_ordinal label_offset label_at vol1_rules ermap_rules ermap_rule7 ermap_rule11 rule41 rule42 rule43 rule45 rule64 rule73 five_digits address_in address_of legal rank before past_last is_address is_data_end known_level another_level format_of record_length unused_count rule44 rule6 rule29 rule35 rule40 rule23 rule63 rule46 spaces_or_date rule48 rule67 rule54 rule58 rule75 hdr1_rules label_fault is_label is_deleted is_unreadable slot_refusal slots_from has_label numbers_in legal_kind kinds_from clashes_below clashes_from overlap shares same_name namesake volume_refusal judged extent_size is_named found_from in_extent taken splice proposed proposed_rules proposal_fault deleted_from lowest_deleted free_run run_from lowest_run create_refusal store_slot image_created creation delete_refusal deletion
 demo_made = (refl, refl, refl, refl, refl, refl, refl, refl)
 
 -- THE FOURTH, of request 2026-03: L = 2 with d1 = 1 and d2 = 2, and a file of F, B = R = 2, over both data cylinders, which stand on 3 and 4. Every cylinder has one
@@ -233,7 +233,7 @@ skipping_volume = record { L = 2; I = 8; D = 1; k = 0; P = 128; S = 1; d1 = 1; d
 pub skipping_heard : (judged skipping ≡ Volume skipping_volume)
     × (following 3 plain skipping 1 (replicate 2 255) start ≡ told (bytes "03") ∷ told (bytes "04") ∷ done ∷ [])
     × (following 3 salvage skipping 1 (replicate 2 255) start ≡ told (bytes "03") ∷ told (bytes "04") ∷ done ∷ [])
-unfolding one_of same every a_set is_digit digit_value number_from spaces_or_number is_hex hex_value hex_from given_when in_order or_else lowest_fault ordinal_at sector_count k_at body_size kind_offset body_offset image_length kind_at body_at first_byte valid_mark incorrect_mark check_failed index_kind index_body slot_count slot_ordinal label_offset label_at relies vol1_rules ermap_rules ermap_rule7 ermap_rule11 rule41 rule42 rule43 rule45 rule64 rule73 skip_one physical five_digits address_in five_read legal rank before stepped past_last is_address is_data_end ordinal known_level another_level format_of record_length unused_count rule44 rule6 rule29 rule35 rule40 rule23 rule63 rule46 spaces_or_date rule48 rule67 rule54 rule58 rule75 hdr1_rules label_fault is_label is_deleted is_unreadable slot_refusal slots_from has_label numbers_in legal_kind kinds_from clashes_below clashes_from overlap shares same_name namesake volume_refusal judged addresses_from extent_size extent is_defective good_among good_records records_to_block good_before data_end_at_start data_end_in_extent blocks_held block_count is_wrong wrong_among splits_block count_refusal counted open_refusal any_failed bytes_of block_of blocks_from file_in file_at first_met step in_file read_on enough read_all join listed number4 role_of look_f look_v look_s look walk pieces in_block in_blocks ahead reply_in reply laid_over following
+unfolding one_of same every a_set is_digit digit_value number_from spaces_or_number is_hex hex_value hex_from given_when in_order or_else lowest_fault ordinal_at sector_count k_at body_size kind_offset body_offset image_length kind_at body_at first_byte valid_mark incorrect_mark check_failed index_kind index_body slot_count slot_ordinal label_offset label_at vol1_rules ermap_rules ermap_rule7 ermap_rule11 rule41 rule42 rule43 rule45 rule64 rule73 skip_one physical five_digits address_in five_read legal rank before stepped past_last is_address is_data_end ordinal known_level another_level format_of record_length unused_count rule44 rule6 rule29 rule35 rule40 rule23 rule63 rule46 spaces_or_date rule48 rule67 rule54 rule58 rule75 hdr1_rules label_fault is_label is_deleted is_unreadable slot_refusal slots_from has_label numbers_in legal_kind kinds_from clashes_below clashes_from overlap shares same_name namesake volume_refusal judged addresses_from extent_size extent is_defective good_among good_records records_to_block good_before data_end_at_start data_end_in_extent blocks_held block_count is_wrong wrong_among splits_block count_refusal counted open_refusal any_failed bytes_of block_of blocks_from file_in file_at first_met step in_file read_on enough read_all join listed number4 role_of look_f look_v look_s look walk pieces in_block in_blocks ahead reply_in reply laid_over following
 skipping_heard = (refl, refl, refl)
 
 -- THE BLOCKS NEEDED, counted from the lengths alone: those of examples 8, 9 and 12

@@ -1,5 +1,5 @@
 -- The volume: its judgement both ways, its labels and numbers; what is read of the index cylinder, found and free; extents in range that share no record; the skip
--- of defective cylinders as a walk, and the pairs of them that ERMAP lets pass; volumes that rely on ISO 5654.
+-- of defective cylinders as a walk, and the pairs of them that ERMAP lets pass.
 pub mod Judging
 pub mod AcceptedLaws
 pub mod LabelRules
@@ -11,4 +11,3 @@ pub mod FreeLaws
 pub mod VolumePromises
 pub mod SkipWalk
 pub mod PairsPass
-pub mod OlderVolumes

@@ -1,17 +1,17 @@
 -- The edges of the rules, each computed: what a sentence of document 01 decides where two readings of it would differ.
 -- Assumes nothing.
-use Rattle.std.specs.Prelude.{ℕ, ◌-◌, ◌*◌, ◌^◌, ◌≡◌, refl, Bool, true, false, length, take, replicate}
+use Rattle.std.specs.Prelude.{ℕ, ◌-◌, ◌^◌, ◌≡◌, refl, Bool, true, false, length, take, replicate}
 use Prim.Native.String.{String}
 use mathlib.Core.List.{List, [], ◌∷◌, ◌++◌, map, flatten}
 use Rattle.standard.specs.Characters.{bytes, byte, one_of, same, every, a_set, is_digit, digit_value, number_from, spaces_or_number, is_hex, hex_value, hex_from, padded, shown_by, shown}
 use Rattle.standard.specs.Addresses.{address_of, first_address, five_digits, address_in, legal, rank, before, past_last, is_address, is_data_end, five_bytes}
 use Rattle.standard.specs.Labels.{known_level, another_level, record_length, unused_count, rule44, rule6, rule29, rule35, rule40, rule23, rule63, rule41, rule42, rule43, rule45, rule46, spaces_or_date, rule48, rule67, rule54, rule58, rule64, rule73, rule75, hdr1_rules, label_fault, fixed, variable, spanned}
-use Rattle.standard.specs.Layout.{image_length, k_at, kind_offset, body_offset, kind_at, first_byte, valid_mark, incorrect_mark, slot_count, slot_ordinal, label_offset, label_at}
+use Rattle.standard.specs.Layout.{k_at, kind_offset, body_offset, kind_at, first_byte, valid_mark, incorrect_mark, slot_count, slot_ordinal, label_offset, label_at}
 use Rattle.standard.specs.Slots.{is_label, is_deleted}
 use Rattle.standard.specs.Free.{in_extent, taken}
 use Rattle.standard.specs.Creating.{proposed, proposed_rules, proposal_fault, deleted_from, lowest_deleted, free_run, run_from, lowest_run, store_slot, image_created, image_without}
 use Rattle.standard.specs.declared.Run.TheVariants.{NoRun, RunAt}
-use Rattle.standard.specs.Judgement.{numbers_in, overlap}
+use Rattle.standard.specs.Judgement.{overlap}
 use Rattle.standard.specs.Pieces.{Block, lost_block, held, number4, role_of, look_f, look_v, look_s, look, walk, pieces, in_block, in_blocks, ahead}
 use Rattle.standard.specs.Records.{plain, salvage, File, FileRecord, took, ended, refused, gapped, first_met, step}
 use Rattle.standard.specs.Places.{next_block, after_gap}
@@ -19,7 +19,7 @@ use Rattle.standard.specs.Listed.{rec, gap, end, no, enough, read_on, read_all}
 use Rattle.standard.specs.Packing.{Packing, unused_in, lay_f, record_v, lay_one, lay_v, segment, spread, lay_s, pack}
 use Rattle.standard.specs.Writing.{splice, unused_field}
 use Rattle.standard.specs.Rules.{lowest_fault}
-use Rattle.standard.specs.Volume.{iso5654, relies, vol1_rules}
+use Rattle.standard.specs.Volume.{vol1_rules}
 use Rattle.standard.specs.Defects.{ermap_rule7, ermap_rule11, ermap_rules, skip_one, physical}
 use Rattle.standard.specs.Skips.{good_cylinder, good_up_to, walk_on, walked}
 use Rattle.standard.specs.declared.Geometry.{Geometry}
@@ -201,14 +201,11 @@ pub edges_overlap :
 unfolding digit_value address_in rank overlap
 edges_overlap = (refl, refl, refl, refl, refl, refl)
 
--- VOL1 of its fields: 5-10 and 11, 38-51, 72 as a byte, 76, 77-78, then 79-80 as bytes, then 81-89; what is reserved has spaces. And the position at fault, 0 for none
-abbrev vol1_typed : String → String → List ℕ → String → String → List ℕ → String → List ℕ
-vol1_typed name owner type size order version numbers =
-    bytes "VOL1" ++ (bytes name ++ (replicate 26 (byte " ") ++ (bytes owner ++ (replicate 20 (byte " ") ++ (type ++ (replicate 3 (byte " ")
-    ++ (bytes size ++ (bytes order ++ (version ++ (bytes numbers ++ replicate 39 (byte " ")))))))))))
-
+-- VOL1 of its fields: 5-10 and 11, 38-51, 72, 76, 77-78, then 79-80 as bytes, then 81-89; what is reserved has spaces. And the position at fault, 0 for none
 abbrev vol1 : String → String → String → String → String → List ℕ → String → List ℕ
-vol1 name owner type = vol1_typed name owner (bytes type)
+vol1 name owner type size order version numbers =
+    bytes "VOL1" ++ (bytes name ++ (replicate 26 (byte " ") ++ (bytes owner ++ (replicate 20 (byte " ") ++ (bytes type ++ (replicate 3 (byte " ")
+    ++ (bytes size ++ (bytes order ++ (version ++ (bytes numbers ++ replicate 39 (byte " ")))))))))))
 
 -- of 77 to 89; of 79-80 alone; of 76 to 89
 abbrev besides : String → List ℕ → String → ℕ
@@ -245,7 +242,7 @@ pub edges_vol1 :
     × (names "demo01 " "              " "A" ≡ 5)
     × (names "DEMO01a" "              " "B" ≡ 11)
     × (names "DEMO01 " "             #" " " ≡ 38)
-    × (names "DEMO01 " "              " "B" ≡ 72)
+    × (names "DEMO01 " "              " "1" ≡ 72)
     -- "76 space, 1, 2, 3"; "77-78 spaces or 01-13"
     × (numbers "3" "13" "050A08  1" ≡ 0)
     × (numbers "0" "00" "050A08  1" ≡ 76)
@@ -266,56 +263,9 @@ pub edges_vol1 :
     × (numbers " " "  " "601A1A  3" ≡ 89)
     -- "87-88 cannot hold 256, so 76 decides; they [..] are not judged"
     × (numbers "1" "  " "601A1A##2" ≡ 0)
-unfolding one_of same every a_set is_digit digit_value number_from spaces_or_number is_hex hex_value hex_from lowest_fault relies vol1_rules
+unfolding one_of same every a_set is_digit digit_value number_from spaces_or_number is_hex hex_value hex_from lowest_fault vol1_rules
 edges_vol1 =
     (refl, refl, refl, refl, refl, refl, refl, refl, refl, refl, refl, refl, refl, refl, refl, refl, refl, refl, refl, refl, refl, refl, refl, refl, refl, refl, refl, refl, refl, refl, refl, refl, refl, refl)
-
--- REQUEST 2026-06. VOL1 with 72 as given, then 76, 77-78, 80 and 81-89: the position at fault, and the numbers that it gives (no cylinder is defective)
-abbrev typed : List ℕ → String → String → String → String → List ℕ
-typed type size order digit f = vol1_typed "DEMO01 " "              " type size order (bytes " " ++ bytes digit) f
-
-abbrev fault : List ℕ → String → String → String → String → ℕ
-fault type size order digit f = lowest_fault (vol1_rules (typed type size order digit f))
-
-abbrev given : List ℕ → String → String → Geometry
-given type size f = numbers_in (typed type size "  " "3" f) []
-
--- ISO 6596, by table 5 as its copy can be read (docs/DECISIONS.md, section 27); no rule asks for it
-abbrev iso6596 : Geometry
-iso6596 = record { L = 31; I = 16; D = 9; k = 1; P = 256; S = 1; d1 = 0; d2 = 0 }
-
-pub edges_older :
-    -- "Older senders leave position 72 blank or write 1"; "3 at 72 only for other characters"
-    (fault (bytes " ") " " "  " "3" "         " ≡ 0)
-    × (fault (bytes "1") " " "  " "3" "         " ≡ 0)
-    × (fault (bytes "A") " " "  " "3" "050A08  1" ≡ 0)
-    × (fault (bytes "2") " " "  " "3" "491A1A  1" ≡ 72)
-    × (fault (bytes "a") " " "  " "3" "491A1A  1" ≡ 72)
-    × (fault (0 ∷ []) " " "  " "3" "491A1A  1" ≡ 72)
-    × (fault (1 ∷ []) " " "  " "3" "491A1A  1" ≡ 72)
-    -- "Positions 76 and 81-89 are then not judged." With `A` they are
-    × (fault (bytes " ") "4" "  " "3" "000000000" ≡ 0)
-    × (fault (bytes "1") "X" "13" "3" "xxxxxxxxx" ≡ 0)
-    × (fault (bytes "A") "4" "  " "3" "000000000" ≡ 76)
-    × (fault (bytes "A") " " "  " "3" "         " ≡ 81)
-    -- and all others are, the lowest first
-    × (fault (bytes " ") "4" "14" "2" "000000000" ≡ 77)
-    × (fault (bytes "1") " " "99" "3" "491A1A  1" ≡ 77)
-    × (fault (bytes "1") "4" "  " " " "000000000" ≡ 80)
-    -- "For those, one side, L 73, I 26, D 26, P 128 apply", whatever 76 and 81-89 hold; and for no other
-    × (given (bytes " ") " " "         " ≡ iso5654)
-    × (given (bytes "1") "3" "050A08  2" ≡ iso5654)
-    × (given (bytes "1") "X" "xxxxxxxxx" ≡ iso5654)
-    × (given (bytes "A") " " "491A1A  1" ≡ iso5654)
-    × (given (bytes "A") "3" "050A08  2" ≡ record { L = 5; I = 10; D = 8; k = 3; P = 1024; S = 2; d1 = 0; d2 = 0 })
-    -- "an image of 258,258 bytes"; P is 128·2^k
-    × (image_length iso5654 ≡ 258258)
-    × (128 * 2 ^ iso5654.k ≡ iso5654.P)
-    -- "ISO 6596 diskettes carry the same mark and stay refused by length": their image by the numbers of table 5, as far as its copy can be read
-    × (image_length iso6596 ≡ 80706)
-unfolding one_of same every a_set is_digit digit_value number_from spaces_or_number is_hex hex_value hex_from lowest_fault relies vol1_rules numbers_in image_length
-edges_older =
-    (refl, refl, refl, refl, refl, refl, refl, refl, refl, refl, refl, refl, refl, refl, refl, refl, refl, refl, refl, refl, refl, refl)
 
 -- ERMAP of a volume with so many data cylinders, positions 7-9 and 11-13 as given: the position at fault
 abbrev ermap : ℕ → String → String → ℕ

@@ -1,26 +1,8 @@
--- Section "VOL1 and ERMAP (tables 2 and 4)", VOL1; and request 2026-06, "Diskettes without geometry fields".
+-- Section "VOL1 and ERMAP (tables 2 and 4)", VOL1.
 -- Assumes nothing.
-use Rattle.std.specs.Prelude.{ℕ, ◌*◌, ◌^◌, Bool, cond, ◌&&◌, ◌||◌, List, [], ◌∷◌}
+use Rattle.std.specs.Prelude.{ℕ, ◌*◌, ◌^◌, Bool, cond, ◌&&◌, List, [], ◌∷◌}
 use Rattle.standard.specs.Characters.{bytes, between, one_of, same, field, at, a_set, in_a_set, is_space, digit_value, spaces_or_number, hex_digits, hex}
 use Rattle.standard.specs.Rules.{Row, row}
-use Rattle.standard.specs.declared.Geometry.{Geometry}
-
--- 2026-06: "one side, L 73, I 26, D 26, P 128 apply (table 5 of document 002, its copy to be checked against a legible print before use)": the numbers of ISO 5654,
--- here and nowhere else. They are the request's own; in the copy at hand I and S cannot be read (docs/DECISIONS.md, section 27), so the check against a print is open.
-abbrev pub iso5654 : Geometry
-iso5654 = record { L = 73; I = 26; D = 26; k = 0; P = 128; S = 1; d1 = 0; d2 = 0 }
-
--- 2026-06: "Older senders leave position 72 blank or write 1 and rely on ISO 5654."
-unfoldable pub relies : List ℕ → Bool
-relies v = one_of (bytes " 1") (at v 72)
-
--- 2026-06: "Positions 76 and 81-89 are then not judged."
-abbrev pub unless_relies : List ℕ → Bool → Bool
-unless_relies v rule = relies v || rule
-
--- 2026-06: "For those, [the numbers of ISO 5654] apply": or else the one that a field holds
-abbrev pub applying : List ℕ → ℕ → ℕ → ℕ
-applying v ofIso ofField = cond (relies v) ofIso ofField
 
 -- a field of hex digits whose number is in a range
 abbrev pub hex_between : ℕ → ℕ → List ℕ → Bool
@@ -29,41 +11,38 @@ hex_between low high f = hex_digits f && between low high (hex f)
 -- "1-4 `VOL1`; 5-10, 11, 38-51 in the a-set; 72 `A`; 76 space, 1, 2, 3 for P = 128, 256, 512, 1024; 77-78 spaces or 01-13; 79 `3`; 81-82 hex L, 1-96;
 -- 83-84 hex I, 8-26; 85-86 hex D, 1-26; 89 hex S, 1-2. 87-88 cannot hold 256, so 76 decides; they and all other positions are not judged." But of 79, request
 -- 2026-02: "The rows of table 2 stand in that order too, reserve first, so the printed numbers are exchanged. Position 80 must be `3`; 79 becomes reserved and is
--- not judged." And of 72, 2026-06: "3 at 72 only for other characters" than `A`, a space and `1`.
+-- not judged."
 unfoldable pub vol1_rules : List ℕ → List Row
 vol1_rules v =
     row 1 (same (field v 1 4) (bytes "VOL1"))
     ∷ row 5 (in_a_set (field v 5 10))
     ∷ row 11 (a_set (at v 11))
     ∷ row 38 (in_a_set (field v 38 51))
-    ∷ row 72 (one_of (bytes "A 1") (at v 72))
-    ∷ row 76 (unless_relies v (one_of (bytes " 123") (at v 76)))
+    ∷ row 72 (one_of (bytes "A") (at v 72))
+    ∷ row 76 (one_of (bytes " 123") (at v 76))
     ∷ row 77 (spaces_or_number 1 13 (field v 77 78))
     ∷ row 80 (one_of (bytes "3") (at v 80))
-    ∷ row 81 (unless_relies v (hex_between 1 96 (field v 81 82)))
-    ∷ row 83 (unless_relies v (hex_between 8 26 (field v 83 84)))
-    ∷ row 85 (unless_relies v (hex_between 1 26 (field v 85 86)))
-    ∷ row 89 (unless_relies v (hex_between 1 2 (field v 89 89)))
+    ∷ row 81 (hex_between 1 96 (field v 81 82))
+    ∷ row 83 (hex_between 8 26 (field v 83 84))
+    ∷ row 85 (hex_between 1 26 (field v 85 86))
+    ∷ row 89 (hex_between 1 2 (field v 89 89))
     ∷ []
 
 abbrev pub volume_l : List ℕ → ℕ
-volume_l v = applying v iso5654.L (hex (field v 81 82))
+volume_l v = hex (field v 81 82)
 
 abbrev pub volume_i : List ℕ → ℕ
-volume_i v = applying v iso5654.I (hex (field v 83 84))
+volume_i v = hex (field v 83 84)
 
 abbrev pub volume_d : List ℕ → ℕ
-volume_d v = applying v iso5654.D (hex (field v 85 86))
+volume_d v = hex (field v 85 86)
 
 abbrev pub volume_s : List ℕ → ℕ
-volume_s v = applying v iso5654.S (hex (field v 89 89))
+volume_s v = hex (field v 89 89)
 
 -- "76 space, 1, 2, 3 for P = 128, 256, 512, 1024", which is 128·2^k
-abbrev pub k_in : ℕ → ℕ
-k_in c = cond (is_space c) 0 (digit_value c)
-
 abbrev pub volume_k : List ℕ → ℕ
-volume_k v = applying v iso5654.k (k_in (at v 76))
+volume_k v = cond (is_space (at v 76)) 0 (digit_value (at v 76))
 
 abbrev pub volume_p : List ℕ → ℕ
 volume_p v = 128 * 2 ^ volume_k v

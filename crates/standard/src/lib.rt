@@ -3,7 +3,6 @@
 ghost use Rattle.std.specs.Prelude.{◌≡◌, ◌+◌, ◌<◌, get_or, ltb};
 ghost use Rattle.standard.specs.Refusals.{refuse, refuse_at};
 ghost use Rattle.standard.specs.Characters.{is_digit, digit_value};
-ghost use Rattle.standard.specs.Volume.{iso5654};
 ghost use Rattle.standard.specs.Addresses.{first_address, stepped, five_digits, two_digits, address_in, five_read};
 ghost use Rattle.standard.specs.Places.{start, behind_at, next_block, after_gap};
 
@@ -57,27 +56,6 @@ pub struct Geometry {
     pub S: u8,
     pub d1: u8,
     pub d2: u8,
-}
-
-impl Geometry {
-    // Request 2026-06: "one side, L 73, I 26, D 26, P 128 apply". No defective cylinder: those are ERMAP's.
-    pub const ISO_5654: Geometry = Geometry {
-        L: 73,
-        I: 26,
-        D: 26,
-        k: 0,
-        P: 128,
-        S: 1,
-        d1: 0,
-        d2: 0,
-    };
-
-    // The constant by a function, which can say that it is the definition's value.
-    pub fn iso_5654() -> Geometry
-        ensures { result ≡ iso5654 }
-    {
-        Geometry::ISO_5654
-    }
 }
 
 // The judgement of a volume: one of the refusals 1 to 12, or its numbers.
@@ -153,7 +131,7 @@ impl Address {
         sector: 1,
     };
 
-    // The constant by a function, as for the numbers.
+    // The constant by a function, which can say that it is the definition's value.
     pub fn first() -> Address
         ensures { result ≡ first_address }
     {
@@ -234,7 +212,7 @@ impl Place {
         mark: false,
     };
 
-    // The constant by a function, as for the numbers.
+    // The constant by a function, as for the address.
     pub fn start() -> Place
         ensures { result ≡ start }
     {

@@ -20,7 +20,7 @@ VOL1 1 the label's name, VOL1
 VOL1 5 the volume's name
 VOL1 11 access to the volume
 VOL1 38 the owner's name
-VOL1 72 the type of recording: A, or a space or 1 for the numbers of ISO 5654
+VOL1 72 the type of recording, A
 VOL1 76 the code of the physical record's length P
 VOL1 77 the sequence of sectors
 VOL1 80 the version of the standard, 3
@@ -79,7 +79,7 @@ test_volumes() {
   broken "$(vol1 11)" X
   volume_says '4 (position 11): VOL1 restricts the access to the volume'
   head -c 9545 demo.img >broken.img
-  volume_says "5: the image does not have the length that the volume's numbers give"
+  volume_says '5: the image does not have the length that VOL1 says'
   broken "$(record 1 3)" '\x01'
   volume_says '6 (sector ordinal 12): the kind byte of the sector is none of the three that it may be'
   broken "$(label 2 0)" '\x20'
@@ -130,46 +130,6 @@ test_version() {
     ends 0 judge broken.img
     says
   done
-}
-
-# Request 2026-06: an older VOL1 on an image of another length than ISO 5654 gives, an ISO 6596 diskette among them; what is judged of it all the same.
-test_older_refused() {
-  fresh
-  sample demo
-  sample older
-  sample older-6596
-  local size="5: the image does not have the length that the volume's numbers give"
-  local hint="$size (VOL1 relies on ISO 5654 by position 72: 258258 bytes; diskettes of ISO 6596, which carry the same mark, are not read)"
-  for type in ' ' 1; do
-    broken "$(vol1 72)" "$type"
-    volume_says "$hint"
-    poke broken.img "$(vol1 11)" X
-    volume_says '4 (position 11): VOL1 restricts the access to the volume'
-    broken "$(vol1 72)" "$type"
-    poke broken.img "$(vol1 76)" 4
-    poke broken.img "$(vol1 81)" xxxxxxxxx
-    volume_says "$hint"
-    poke broken.img "$(vol1 80)" 2
-    volume_says '3 (position 80): a rule of the label VOL1 is broken: the version of the standard, 3'
-    poke broken.img "$(vol1 77)" 99
-    volume_says '3 (position 77): a rule of the label VOL1 is broken: the sequence of sectors'
-  done
-  for type in 2 a '\x00' '\x01'; do
-    broken "$(vol1 72)" "$type"
-    volume_says '3 (position 72): a rule of the label VOL1 is broken: the type of recording: A, or a space or 1 for the numbers of ISO 5654'
-  done
-  cp older-6596.img broken.img
-  volume_says "$hint"
-  ends 1 list broken.img
-  prints 'REFUSED 5 0'
-  head -c 258257 older.img >broken.img
-  volume_says "$hint"
-  cp older.img broken.img
-  printf x >>broken.img
-  volume_says "$hint"
-  # an image that describes itself gets no such hint
-  head -c 9545 demo.img >broken.img
-  volume_says "$size"
 }
 
 # SLOT TEXT: reading a file of broken.img says so

@@ -19,7 +19,7 @@ test_client() {
 
 test_help() {
   ends 0 --version
-  prints 'galz 1.3 (GOST 28081-89)'
+  prints 'galz 1.2 (GOST 28081-89)'
   ends 0 --help
   says
   cp "$scratch/out" "$scratch/help"
@@ -51,10 +51,10 @@ test_judge() {
   sample demo
   sample two-sided
   ends 0 judge demo.img
-  prints 'volume DEMO01' 'numbers VOL1' 'L 5' 'I 10' 'D 8' 'P 128' 'S 1' 'defects none' 'slots 3' 'labels 2' 'free 16'
+  prints 'volume DEMO01' 'L 5' 'I 10' 'D 8' 'P 128' 'S 1' 'defects none' 'slots 3' 'labels 2' 'free 16'
   says
   ends 0 judge two-sided.img
-  prints 'volume DEMO01' 'numbers VOL1' 'L 2' 'I 8' 'D 4' 'P 256' 'S 2' 'defects 1 3' 'slots 9' 'labels 2' 'free 0'
+  prints 'volume DEMO01' 'L 2' 'I 8' 'D 4' 'P 256' 'S 2' 'defects 1 3' 'slots 9' 'labels 2' 'free 0'
   poke two-sided.img "$(ermap 11)" '   '
   ends 0 judge two-sided.img
   holds 'one defective cylinder is shown' grep -qx 'defects 1' "$scratch/out"
@@ -62,50 +62,6 @@ test_judge() {
   ends 0 judge -
   holds 'an image from standard input is judged' grep -qx 'free 16' "$scratch/out"
   input=/dev/null
-}
-
-# Request 2026-06: 72 of VOL1 blank or 1, whatever stands at 76 and 81-89. The numbers are those of ISO 5654, and everything is as on the volume that describes them.
-test_older() {
-  local name words
-  fresh
-  sample older
-  sample older-1
-  for name in older older-1; do
-    ends 0 judge "$name.img"
-    holds "$name: the numbers of ISO 5654" cmp -s <(sed -n '2,7p' "$scratch/out") <(lines 'numbers ISO 5654' 'L 73' 'I 26' 'D 26' 'P 128' 'S 1')
-    says
-    cp "$scratch/out" "$name.judged"
-    holds "$name has 258258 bytes" [ "$(stat -c %s "$name.img")" -eq 258258 ]
-    cp "$name.img" described.img
-    poke described.img "$(vol1 72)" A
-    poke described.img "$(vol1 76)" ' '
-    poke described.img "$(vol1 81)" 491A1A
-    poke described.img "$(vol1 89)" 1
-    ends 0 judge described.img
-    holds "$name described: the same numbers, from VOL1" cmp -s "$scratch/out" <(sed 's/^numbers ISO 5654$/numbers VOL1/' "$name.judged")
-    for words in list cylinders; do
-      ends 0 "$words" "$name.img"
-      cp "$scratch/out" "$name.$words"
-      ends 0 "$words" described.img
-      same "$scratch/out" "$name.$words"
-    done
-    ends 0 extract-all --as lengths "$name.img" "$name.files"
-    ends 0 extract-all --as lengths described.img described.files
-    holds "$name: the same files" diff -r "$name.files" described.files
-    rm -r described.files
-    # made, written and dropped on both: VOL1 stays, and all else is alike
-    lines ONE TWO THREE >records
-    for image in "$name.img" described.img; do
-      ends 0 create --level 2 --block-length 3328 -o "new-$image" "$image" NEWFILE 52
-      ends 0 write "new-$image" LOG records
-      ends 0 delete "new-$image" PARTS
-      ends 0 read "new-$image" LOG
-      same "$scratch/out" records
-    done
-    cmp -l "new-$name.img" new-described.img | awk '{ print $1 - 1 - 6 * 129 }' >differ
-    holds "$name: the images differ in VOL1's own fields alone" [ -z "$(grep -vxE '72|76|8[1-6]|89' differ)" ]
-    holds "$name: and there" grep -qx 72 differ
-  done
 }
 
 # L D1 D2: by a walk that counts good cylinders, the line of each data cylinder: c; where the c-th good one is if d1 alone is skipped; where it is
@@ -162,7 +118,7 @@ test_cylinders() {
 test_list() {
   for image in "$top"/samples/*.img; do
     # 'TOO LONG' is the listing program's own: galz lists what the library takes
-    ! grep -qx 'TOO LONG' "${image%.img}.txt" || continue
+    [ "$(basename "$image")" != long.img ] || continue
     want=0
     grep -q '^REFUSED' "${image%.img}.txt" && want=1
     ends "$want" list "$image"
@@ -171,8 +127,6 @@ test_list() {
   done
   ends 1 list "$top/samples/long.img"
   prints 'REFUSED 3 1'
-  ends 0 list "$top/samples/older.img"
-  holds 'an older volume is listed' grep -qx 'VOLUME [^ ]* *L=73 I=26 D=26 P=128 S=1 FREE=[0-9]*' "$scratch/out"
 }
 
 # against the independent program's text, on its samples and on drawn images, the largest of 5,283,408 bytes
@@ -204,7 +158,7 @@ test_images() {
   ends 0 list largest.img
   truncate -s 2G largest.img
   ends 1 judge largest.img
-  says "galz: refused 5: the image does not have the length that the volume's numbers give"
+  says 'galz: refused 5: the image does not have the length that VOL1 says'
   for command in judge cylinders list; do
     ends 2 "$command" none.img
     prints

@@ -2,7 +2,6 @@
 -- Assumes nothing.
 use native.Mathlib.Omega.{arith}
 use borrow.Author.Rules.{rules}
-use Rattle.standard.specs.Characters.{at}
 use Rattle.numbers.proofs.Laws.{kind_space, kind_digit}
 use Rattle.numbers.proofs.kind_in.Statement.{statement}
 use Rattle.numbers.proofs.kind_in.Tie as tie
@@ -16,7 +15,7 @@ wide-requires c κs = search rules
 returns : tie.Need-returns
 returns c =
     let c1 = c.before.before.before.before in
-    kind_space (at c1.args.v.now 76) _ (omega arith) (omega arith)
+    kind_space c1.args.v.now _ (omega arith) (omega arith)
 
 digit-requires : tie.Need-digit-requires
 digit-requires c κs = search rules
@@ -24,7 +23,7 @@ digit-requires c κs = search rules
 returns-2 : tie.Need-returns-2
 returns-2 c =
     let c1 = c.before.before.before.before.before in
-    kind_digit (at c1.args.v.now 76) _ (search rules) (cc)
+    kind_digit c1.args.v.now _ (search rules) (cc)
 
 pub kind-in-spec : {M : Type 1} → statement M
 kind-in-spec =

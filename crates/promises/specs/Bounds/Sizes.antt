@@ -1,6 +1,6 @@
 -- How large the numbers in an answer can be: a volume's numbers, its slots and sectors, the places of refusals.
 -- Assumes nothing.
-use Rattle.std.specs.Prelude.{ℕ, suc, ◌+◌, ◌-◌, ◌*◌, ◌^◌, ◌<◌, ◌≤◌, ◌≡◌, Bool, true, false, cond, not, ◌&&◌, ◌||◌, List, [], ◌∷◌, length, ltb, eqb}
+use Rattle.std.specs.Prelude.{ℕ, suc, ◌+◌, ◌-◌, ◌*◌, ◌^◌, ◌<◌, ◌≤◌, ◌≡◌, Bool, true, false, cond, not, ◌&&◌, List, [], ◌∷◌, length, ltb, eqb}
 use Rattle.std.proofs.Math.Path.{refl}
 use Rattle.std.proofs.Common.{sym, subst, arith, mul-le-mul_right, ltb-true, lt-ltb}
 use Rattle.std.proofs.Math.Nat.{mul-le-mul_left}
@@ -13,7 +13,7 @@ use Rattle.standard.specs.Addresses.{address_count, ordinal}
 use Rattle.standard.specs.Labels.{end_of, hdr1_rules, label_fault}
 use Rattle.standard.specs.Slots.{has_label, slot_refusal}
 use Rattle.standard.specs.Refusals.{refuse, refuse_at, given_when, in_order}
-use Rattle.standard.specs.Judgement.{volume_of, volume_list, refusal1, refusal2, refusal3, refusal4, refusal5, refusal6, refusal7, refusal8to10, refusal11, refusal12, clashes_from, shares, namesake, judged}
+use Rattle.standard.specs.Judgement.{volume_of, volume_list, refusal1, refusal2, refusal3, refusal6, refusal7, refusal8to10, refusal11, refusal12, clashes_from, shares, namesake, judged}
 use Rattle.standard.specs.Finding.{found}
 use Rattle.standard.specs.Free.{free_records, free_count}
 use Rattle.standard.specs.Files.{extent, extent_size, is_defective, good_among, good_records, block_count, refusal13, refusal17, count_list, count_or, count_refusal, counted, open_refusal}
@@ -118,15 +118,12 @@ small_one number place l h p = record { number_low = l; number_high = h; first_l
 pub small_given : (t : Bool) (q r : Refusal) → Small q → given_when t q ≡ Stopped r → Small r
 small_given t q r s h = subst Small (sym ((given_exactly t q r).0 h).1) s
 
--- small, and of another number than VOL1's and the length's
-abbrev pub vol1_or_length : ℕ → Bool
-vol1_or_length number = eqb number 3 || eqb number 5
-
+-- small, and of another number than VOL1's
 abbrev pub Other : Refusal → Type 0
-Other r = (vol1_or_length r.number ≡ false) × Small r
+Other r = (r.number ≡ 3 → ⊥) × Small r
 
-other_one : (number place : ℕ) → vol1_or_length number ≡ false → 1 ≤ number → number ≤ 29 → place < 2 ^ 32 → Other (refuse number place)
-other_one number place other l h p = (other, small_one number place l h p)
+other_one : (number place : ℕ) → (number ≡ 3 → ⊥) → 1 ≤ number → number ≤ 29 → place < 2 ^ 32 → Other (refuse number place)
+other_one number place ne l h p = (ne, small_one number place l h p)
 
 other_given : (t : Bool) (q r : Refusal) → Other q → given_when t q ≡ Stopped r → Other r
 other_given t q r s h = subst Other (sym ((given_exactly t q r).0 h).1) s
@@ -172,16 +169,14 @@ unfolding slot_refusal
 slot_other g image slot r l h =
     let p = hdr1_position g (label_at g image slot) in
     let ten : Small (refuse_at 10 slot (label_fault g (label_at g image slot))) = record { number_low = omega arith; number_high = omega arith; first_low = omega arith; second_low = omega arith; third_none = refl } in
-    by_order _ _ r h (other_given _ _ r (other_one 8 slot refl (omega arith) (omega arith) (omega arith)))
-    (λ _ h9. by_order _ _ r h9 (other_given _ _ r (other_one 9 slot refl (omega arith) (omega arith) (omega arith)))
-    (λ _ h10. by_order _ _ r h10 (other_given _ _ r (refl, ten))
+    by_order _ _ r h (other_given _ _ r (other_one 8 slot (λ q. omega (arith, q)) (omega arith) (omega arith) (omega arith)))
+    (λ _ h9. by_order _ _ r h9 (other_given _ _ r (other_one 9 slot (λ q. omega (arith, q)) (omega arith) (omega arith) (omega arith)))
+    (λ _ h10. by_order _ _ r h10 (other_given _ _ r ((λ q. omega (arith, q)), ten))
     (λ _ none. by_none r none)))
 
--- A REFUSAL OF THE VOLUME is VOL1's, behind 1 and 2; or the length's, behind 1 to 4; or of another number than 3 and 5
+-- A REFUSAL OF THE VOLUME is VOL1's, behind 1 and 2, or of another number than 3
 pub data VolumeFault (image : List ℕ) (r : Refusal) : Type 0 where
   of_vol1 : refusal1 image ≡ Passed → refusal2 image ≡ Passed → refusal3 (vol1_of image) ≡ Stopped r → VolumeFault image r
-  of_length : refusal1 image ≡ Passed → refusal2 image ≡ Passed → refusal3 (vol1_of image) ≡ Passed → refusal4 (vol1_of image) ≡ Passed
-      → refusal5 (volume_of image) image ≡ Stopped r → VolumeFault image r
   of_another : Other r → VolumeFault image r
 
 -- the volume: 6 to 12 are reached only where VOL1 has given the numbers
@@ -191,45 +186,46 @@ module _ (image : List ℕ) where
 
   two_other : (r : Refusal) → refusal2 image ≡ Stopped r → Other r
   two_other r h =
-      by_order _ _ r h (other_given _ _ r (other_one 2 5 refl (omega arith) (omega arith) (omega arith)))
-      (λ _ h7. by_order _ _ r h7 (other_given _ _ r (other_one 2 7 refl (omega arith) (omega arith) (omega arith)))
+      by_order _ _ r h (other_given _ _ r (other_one 2 5 (λ q. omega (arith, q)) (omega arith) (omega arith) (omega arith)))
+      (λ _ h7. by_order _ _ r h7 (other_given _ _ r (other_one 2 7 (λ q. omega (arith, q)) (omega arith) (omega arith) (omega arith)))
       (λ _ none. by_none r none))
 
   kinds_other : Numbers g → (r : Refusal) → refusal6 g image ≡ Stopped r → Other r
   kinds_other n r h =
       let f = (place_6 g image r).0 h in
-      subst Other (sym f.is_so.1) (other_one 6 f.place refl (omega arith) (omega arith) (omega (arith, f.high, sectors_few g n)))
+      subst Other (sym f.is_so.1) (other_one 6 f.place (λ q. omega (arith, q)) (omega arith) (omega arith) (omega (arith, f.high, sectors_few g n)))
 
   slots_other : Numbers g → (r : Refusal) → refusal8to10 g image ≡ Stopped r → Other r
   slots_other n r h =
       let f = (slots_first g image (slot_count g) 1 r).0 h in
       slot_other g image f.place r (omega (arith, f.high, slots_few g n)) f.is_so
 
-  clash_other : Numbers g → (clash : ℕ → ℕ → Bool) (number : ℕ) → vol1_or_length number ≡ false → 1 ≤ number → number ≤ 29 → (r : Refusal) → clashes_from clash number (slot_count g) 1 ≡ Stopped r → Other r
-  clash_other n clash number other l m r h =
+  clash_other : Numbers g → (clash : ℕ → ℕ → Bool) (number : ℕ) → 4 ≤ number → number ≤ 29 → (r : Refusal) → clashes_from clash number (slot_count g) 1 ≡ Stopped r → Other r
+  clash_other n clash number l m r h =
       let f = (clashes_first clash number (slot_count g) 1 r).0 h in
-      subst Other (sym f.is_so.1) (other_one number f.place other l m (omega (arith, f.high, slots_few g n)))
+      subst Other (sym f.is_so.1) (other_one number f.place (λ q. omega (arith, q)) (omega arith) m (omega (arith, f.high, slots_few g n)))
 
   late_other : Numbers g → (r : Refusal)
       → in_order (refusal6 g image ∷ refusal7 g.L (ermap_of image) ∷ refusal8to10 g image ∷ refusal11 g image ∷ refusal12 g image ∷ []) ≡ Stopped r → Other r
   late_other n r h =
       let p = ermap_position g.L (ermap_of image) in
       by_order _ _ r h (kinds_other n r)
-      (λ _ h7. by_order _ _ r h7 (other_given _ _ r (other_one 7 _ refl (omega arith) (omega arith) (omega arith)))
+      (λ _ h7. by_order _ _ r h7 (other_given _ _ r (other_one 7 _ (λ q. omega (arith, q)) (omega arith) (omega arith) (omega arith)))
       (λ _ h8. by_order _ _ r h8 (slots_other n r)
-      (λ _ h11. by_order _ _ r h11 (clash_other n (shares g image) 11 refl (omega arith) (omega arith) r)
-      (λ _ h12. by_order _ _ r h12 (clash_other n (namesake g image) 12 refl (omega arith) (omega arith) r)
+      (λ _ h11. by_order _ _ r h11 (clash_other n (shares g image) 11 (omega arith) (omega arith) r)
+      (λ _ h12. by_order _ _ r h12 (clash_other n (namesake g image) 12 (omega arith) (omega arith) r)
       (λ _ none. by_none r none)))))
 
   pub volume_fault : (r : Refusal) → judged image ≡ Refused r → VolumeFault image r
   volume_fault r j =
       by_order _ _ r (first_order (volume_list image g) r ((volume_first image r).0 j))
-      (λ h. of_another (other_given _ _ r (other_one 1 0 refl (omega arith) (omega arith) (omega arith)) h))
+      (λ h. of_another (other_given _ _ r (other_one 1 0 (λ q. omega (arith, q)) (omega arith) (omega arith) (omega arith)) h))
       (λ long h2. by_order _ _ r h2 (λ h. of_another (two_other r h))
       (λ readable h3. by_order _ _ r h3 (λ here. of_vol1 long readable here)
       (λ vol1 h4. by_order _ _ r h4
-      (λ h. of_another (other_given _ _ r (other_one 4 11 refl (omega arith) (omega arith) (omega arith)) h))
-      (λ access h5. by_order _ _ r h5 (λ here. of_length long readable vol1 access here)
+      (λ h. of_another (other_given _ _ r (other_one 4 11 (λ q. omega (arith, q)) (omega arith) (omega arith) (omega arith)) h))
+      (λ _ h5. by_order _ _ r h5
+      (λ h. of_another (other_given _ _ r (other_one 5 0 (λ q. omega (arith, q)) (omega arith) (omega arith) (omega arith)) h))
       (λ _ h6. of_another (late_other (of_rules image (vol1_right (vol1_of image) vol1)) r h6))))))
 
   pub volume_small : (r : Refusal) → judged image ≡ Refused r → Small r
@@ -239,7 +235,6 @@ module _ (image : List ℕ) where
       go (of_vol1 long readable here) =
           let p = vol1_position (vol1_of image) in
           small_given _ _ r (small_one 3 _ (omega arith) (omega arith) (omega arith)) here
-      go (of_length long readable vol1 access here) = small_given _ _ r (small_one 5 0 (omega arith) (omega arith) (omega arith)) here
       go (of_another other) = other.1
 
 -- a file of an accepted volume: behind 13 the slot is one of the volume

@@ -1,5 +1,5 @@
--- "Kind 32+k: check failed, body not trusted." What it is for two images to be equal but for the bodies of check-failed sectors, and for what is not judged of sectors
--- 01 to 07; and what is then the same of a sector.
+-- "Kind 32+k: check failed, body not trusted." What it is for two images to be equal but for the bodies of check-failed sectors, and for positions that are not
+-- judged; and what is then the same of a sector.
 -- Assumes nothing.
 use Rattle.std.specs.Prelude.{ℕ, ◌+◌, ◌<◌, ◌≤◌, ◌≡◌, Bool, true, false, ◌&&◌, ◌⊎◌, List, [], ◌∷◌, length}
 use Rattle.std.proofs.Math.Path.{sym}
@@ -13,33 +13,21 @@ use Rattle.standard.specs.declared.Checked.{Checked}
 use Rattle.standard.specs.declared.Checked.TheVariants.{Passed}
 use Rattle.promises.specs.Ground.Basics.{by_test, true_not_false}
 use Rattle.promises.specs.Images.Sectors.{sector_at}
-use Rattle.promises.specs.Images.Unjudged.{Unjudged, SameBut, SameVol1, SameErmap, unjudged_vol1, unjudged_ermap}
+use Rattle.promises.specs.Images.Unjudged.{Unjudged, SameBut}
 use Rattle.promises.specs.Images.SectorLaws.{valid_sound, failed_correct, same_kind, same_first, same_failed, kind_legal}
 
--- WHAT IS LOOSE, so that two images may differ there: of sectors 01 to 07, by the sector, which two bodies pass for one another; and, or not, the bodies of
--- check-failed sectors
+-- WHAT IS LOOSE, so that two images may differ there: positions of sectors 01 to 07, by the sector; and, or not, the bodies of check-failed sectors
 pub record Loose : Type 1 where
-  pub passes : ℕ → List ℕ → List ℕ → Type 0
+  pub positions : ℕ → ℕ → Type 0
   pub bodies : Type 0
 
--- NOTHING THAT IS LOOSE IS JUDGED: two labels that pass for one another say the same
-pub record NoneJudged (loose : Loose) : Type 0 where
-  pub vol1 : (v w : List ℕ) → loose.passes 7 v w → SameVol1 v w
-  pub ermap : (e d : List ℕ) → loose.passes 5 e d → SameErmap e d
-
--- positions of sectors 01 to 07, by the sector, are loose: two bodies pass for one another that have the same bytes elsewhere
-abbrev pub AtPositions : (ℕ → ℕ → Type 0) → Type 0 → Loose
-AtPositions positions bodies = record { passes = λ sector. SameBut (positions sector); bodies = bodies }
-
--- if no rule judges such a position, nothing that is loose is judged
-pub positions_unjudged : (positions : ℕ → ℕ → Type 0) (bodies : Type 0) → ((sector p : ℕ) → positions sector p → Unjudged sector p)
-    → NoneJudged (AtPositions positions bodies)
-positions_unjudged positions bodies u =
-    record { vol1 = unjudged_vol1 (positions 7) (u 7); ermap = unjudged_ermap (positions 5) (u 5) }
+-- no rule judges a position that is loose
+abbrev pub NoneJudged : Loose → Type 0
+NoneJudged loose = (sector p : ℕ) → loose.positions sector p → Unjudged sector p
 
 -- one position of one sector, and no body
 abbrev pub Only : ℕ → ℕ → Loose
-Only sector p = AtPositions (λ s q. (s ≡ sector) × (q ≡ p)) ⊥
+Only sector p = record { positions = λ s q. (s ≡ sector) × (q ≡ p); bodies = ⊥ }
 
 -- A SECTOR has the same bytes in both images, or it is check-failed in both, and any bytes stand behind its kind.
 abbrev pub SameOrFailed : Geometry → List ℕ → List ℕ → ℕ → Type 0
@@ -58,7 +46,7 @@ or_failed loose g image image' n (inr f) = inr (f.0, f.1)
 -- The same of sectors 01 to 07. They have 129 bytes and k = 0 on every volume, so they are known before its numbers are.
 abbrev pub FrontAlike : Loose → List ℕ → List ℕ → ℕ → Type 0
 FrontAlike loose image image' sector =
-    ((index_kind image sector ≡ index_kind image' sector) × loose.passes sector (index_body image sector) (index_body image' sector))
+    ((index_kind image sector ≡ index_kind image' sector) × SameBut (loose.positions sector) (index_body image sector) (index_body image' sector))
     ⊎ ((index_kind image sector ≡ 32) × (index_kind image' sector ≡ 32) × loose.bodies)
 
 -- Where the other sectors lie is known if none of the refusals 1 to 5 is given: sectors 05 and 07 can be read, VOL1 is right, the length is the one that it gives.
@@ -82,7 +70,7 @@ pub record EqualBut (loose : Loose) (image image' : List ℕ) : Type 0 where
 
 -- equal but for the bodies of check-failed sectors
 abbrev pub failed_bodies : Loose
-failed_bodies = AtPositions (λ sector p. ⊥) (Unit {0})
+failed_bodies = record { positions = λ sector p. ⊥; bodies = Unit {0} }
 
 pub swap_sector : (loose : Loose) (g : Geometry) (image image' : List ℕ) (n : ℕ) → SameOrLoose loose g image image' n → SameOrLoose loose g image' image n
 swap_sector loose g image image' n (inl e) = inl (sym e)

@@ -1,9 +1,9 @@
--- What no rule judges of the first seven sectors of the index cylinder: two labels that have the same bytes everywhere else say the same.
+-- What no rule judges of the first seven sectors of the index cylinder, and what two labels share that have the same bytes everywhere else.
 -- Assumes nothing.
 use Rattle.std.specs.Prelude.{ℕ, suc, ◌+◌, ◌-◌, ◌≤◌, ◌≡◌, refl, List, length, get_or}
 use Rattle.std.proofs.Common.{arith}
 use Rattle.standard.specs.Characters.{field, at}
-use Rattle.standard.specs.Volume.{relies, vol1_rules, volume_name}
+use Rattle.standard.specs.Volume.{vol1_rules, volume_name}
 use Rattle.standard.specs.Defects.{ermap_rule7, ermap_rule11, ermap_rules}
 use Rattle.standard.specs.Judgement.{numbers_in}
 use Rattle.promises.specs.Ground.Splices.{part_same}
@@ -33,28 +33,17 @@ pub record SameBut (loose : ℕ → Type 0) (v w : List ℕ) : Type 0 where
   pub same_length : length v ≡ length w
   pub same_at : (i : ℕ) → (loose (i + 1) → ⊥) → get_or v i 0 ≡ get_or w i 0
 
--- TWO LABELS VOL1, and two labels ERMAP, SAY THE SAME: the same rules hold, and the same numbers are read
-pub record SameVol1 (v w : List ℕ) : Type 0 where
-  pub rules : vol1_rules v ≡ vol1_rules w
-  pub access : at v 11 ≡ at w 11
-  pub name : volume_name v ≡ volume_name w
-  pub numbers : (e : List ℕ) → numbers_in v e ≡ numbers_in w e
-
-pub record SameErmap (e d : List ℕ) : Type 0 where
-  pub rules : (L : ℕ) → ermap_rules L e ≡ ermap_rules L d
-  pub numbers : (v : List ℕ) → numbers_in v e ≡ numbers_in v d
-
 -- none of a field's positions is loose
-abbrev pub Whole : (ℕ → Type 0) → ℕ → ℕ → Type 0
+abbrev Whole : (ℕ → Type 0) → ℕ → ℕ → Type 0
 Whole loose first last = (p : ℕ) → loose p → NotIn p first last
 
 module _ (loose : ℕ → Type 0) (v w : List ℕ) (s : SameBut loose v w) where
   -- a field, or a position, within such positions
-  pub field_alike : (first last from to : ℕ) → Whole loose first last → 1 ≤ first → first ≤ from → to ≤ last → field v from to ≡ field w from to
+  field_alike : (first last from to : ℕ) → Whole loose first last → 1 ≤ first → first ≤ from → to ≤ last → field v from to ≡ field w from to
   field_alike first last from to h one lo hi =
       part_same (from - 1) (suc to - from) w v s.same_length (λ i l m. s.same_at i (λ f. h (i + 1) f (omega arith) (omega arith)))
 
-  pub at_alike : (first last p : ℕ) → Whole loose first last → 1 ≤ first → first ≤ p → p ≤ last → at v p ≡ at w p
+  at_alike : (first last p : ℕ) → Whole loose first last → 1 ≤ first → first ≤ p → p ≤ last → at v p ≡ at w p
   at_alike first last p h one lo hi = s.same_at (p - 1) (λ f. h (p - 1 + 1) f (omega arith) (omega arith))
 
 -- VOL1
@@ -65,7 +54,7 @@ module _ (loose : ℕ → Type 0) (u : (p : ℕ) → loose p → Unjudged 7 p) (
   in_80 : (from to : ℕ) → 80 ≤ from → to ≤ 86 → field v from to ≡ field w from to
   in_80 from to = field_alike loose v w s 80 86 from to (λ p f. ((u p f).vol1 refl).4) (omega arith)
 
-  access_same : at v 11 ≡ at w 11
+  pub access_same : at v 11 ≡ at w 11
   access_same = at_alike loose v w s 1 11 11 (λ p f. ((u p f).vol1 refl).0) (omega arith) (omega arith) (omega arith)
 
   owner : field v 38 51 ≡ field w 38 51
@@ -86,14 +75,11 @@ module _ (loose : ℕ → Type 0) (u : (p : ℕ) → loose p → Unjudged 7 p) (
   sides : field v 89 89 ≡ field w 89 89
   sides = field_alike loose v w s 89 89 89 89 (λ p f. ((u p f).vol1 refl).5) (omega arith) (omega arith) (omega arith)
 
-  volume_name_same : volume_name v ≡ volume_name w
+  pub volume_name_same : volume_name v ≡ volume_name w
   volume_name_same = in_1 5 10 (omega arith) (omega arith)
 
-  relies_same : relies v ≡ relies w
-  unfolding relies
-  relies_same = rw type
-
-  vol1_rules_same : vol1_rules v ≡ vol1_rules w
+  -- the same rules, and the same numbers
+  pub vol1_rules_same : vol1_rules v ≡ vol1_rules w
   unfolding vol1_rules
   vol1_rules_same =
       rw (
@@ -102,7 +88,6 @@ module _ (loose : ℕ → Type 0) (u : (p : ℕ) → loose p → Unjudged 7 p) (
         access_same,
         owner,
         type,
-        relies_same,
         size,
         sequence,
         version,
@@ -112,13 +97,10 @@ module _ (loose : ℕ → Type 0) (u : (p : ℕ) → loose p → Unjudged 7 p) (
         sides,
       )
 
-  vol1_numbers_same : (e : List ℕ) → numbers_in v e ≡ numbers_in w e
+  pub vol1_numbers_same : (e : List ℕ) → numbers_in v e ≡ numbers_in w e
   unfolding numbers_in
   vol1_numbers_same e =
-      rw (relies_same, in_80 81 82 (omega arith) (omega arith), in_80 83 84 (omega arith) (omega arith), in_80 85 86 (omega arith) (omega arith), size, sides)
-
-  pub unjudged_vol1 : SameVol1 v w
-  unjudged_vol1 = record { rules = vol1_rules_same; access = access_same; name = volume_name_same; numbers = vol1_numbers_same }
+      rw (in_80 81 82 (omega arith) (omega arith), in_80 83 84 (omega arith) (omega arith), in_80 85 86 (omega arith) (omega arith), size, sides)
 
 -- ERMAP
 module _ (loose : ℕ → Type 0) (u : (p : ℕ) → loose p → Unjudged 5 p) (e d : List ℕ) (s : SameBut loose e d) where
@@ -131,13 +113,11 @@ module _ (loose : ℕ → Type 0) (u : (p : ℕ) → loose p → Unjudged 5 p) (
   second_defect : field e 11 13 ≡ field d 11 13
   second_defect = field_alike loose e d s 11 13 11 13 (λ p f. ((u p f).ermap refl).2) (omega arith) (omega arith) (omega arith)
 
-  ermap_rules_same : (L : ℕ) → ermap_rules L e ≡ ermap_rules L d
+  -- the same rules, and the same defective cylinders
+  pub ermap_rules_same : (L : ℕ) → ermap_rules L e ≡ ermap_rules L d
   unfolding ermap_rules ermap_rule7 ermap_rule11
   ermap_rules_same L = rw (ermap_name, first_defect, second_defect)
 
-  ermap_numbers_same : (v : List ℕ) → numbers_in v e ≡ numbers_in v d
+  pub ermap_numbers_same : (v : List ℕ) → numbers_in v e ≡ numbers_in v d
   unfolding numbers_in
   ermap_numbers_same v = rw (first_defect, second_defect)
-
-  pub unjudged_ermap : SameErmap e d
-  unjudged_ermap = record { rules = ermap_rules_same; numbers = ermap_numbers_same }

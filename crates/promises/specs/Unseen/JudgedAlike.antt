@@ -22,8 +22,8 @@ use Rattle.standard.specs.declared.Checked.TheVariants.{Passed, Stopped}
 use Rattle.promises.specs.Ground.Basics.{either, lt_or_le, by_test, and_l}
 use Rattle.promises.specs.Images.Tiling.{sectors_apart, last_sector}
 use Rattle.promises.specs.Images.SectorLaws.{sector_from_bytes, kind_legal, index_kind_lem}
-use Rattle.promises.specs.Images.Unjudged.{SameVol1, SameErmap}
-use Rattle.promises.specs.Images.Alike.{Loose, NoneJudged, AtPositions, SameOrFailed, SameOrLoose, or_failed, FrontAlike, layout_list, SectorsKnown, EqualBut, swap_sector, alike_valid, alike_failed, alike_legal_kind, alike_marked, valid_same}
+use Rattle.promises.specs.Images.Unjudged.{SameBut, vol1_rules_same, access_same, volume_name_same, vol1_numbers_same, ermap_rules_same, ermap_numbers_same}
+use Rattle.promises.specs.Images.Alike.{Loose, NoneJudged, SameOrFailed, SameOrLoose, or_failed, FrontAlike, layout_list, SectorsKnown, EqualBut, swap_sector, alike_valid, alike_failed, alike_legal_kind, alike_marked, valid_same}
 use Rattle.promises.specs.Volumes.Judging.{order_each, order_append, not_given, clashes_same}
 use Rattle.promises.specs.Volumes.VolumeNumbers.{Numbers, of_rules, vol1_right, index_sectors_lem, slot_in_index}
 use Rattle.promises.specs.Volumes.IndexLaws.{same_label}
@@ -166,7 +166,7 @@ module _ (loose : Loose) (u : NoneJudged loose) (image image' : List ℕ) (e : E
   kind_of sector (inr f) = f.0 ∙ sym f.1
 
   body_of : (sector : ℕ) → FrontAlike loose image image' sector → index_kind image sector ≡ 0
-      → loose.passes sector (index_body image sector) (index_body image' sector)
+      → SameBut (loose.positions sector) (index_body image sector) (index_body image' sector)
   body_of sector (inl s) z = s.1
   body_of sector (inr f) z = absurd (omega (arith, f.0, z))
 
@@ -186,20 +186,33 @@ module _ (loose : Loose) (u : NoneJudged loose) (image image' : List ℕ) (e : E
     pub kind7 : index_kind image 7 ≡ 0
     kind7 = eqb-true (index_kind image 7) 0 (not-false _ (not_given (not (eqb (index_kind image 7) 0)) _ (order_each _ r).1.0))
 
-    same_ermap : SameErmap (ermap_of image) (ermap_of image')
-    same_ermap = u.ermap (ermap_of image) (ermap_of image') (body_of 5 front5 kind5)
+    ermap_but : SameBut (loose.positions 5) (ermap_of image) (ermap_of image')
+    ermap_but = body_of 5 front5 kind5
 
-    same_vol1 : SameVol1 (vol1_of image) (vol1_of image')
-    same_vol1 = u.vol1 (vol1_of image) (vol1_of image') (body_of 7 front7 kind7)
+    vol1_but : SameBut (loose.positions 7) (vol1_of image) (vol1_of image')
+    vol1_but = body_of 7 front7 kind7
 
     pub name_alike : volume_name (vol1_of image) ≡ volume_name (vol1_of image')
-    name_alike = same_vol1.name
+    name_alike = volume_name_same (loose.positions 7) (u 7) (vol1_of image) (vol1_of image') vol1_but
+
+    ermap_alike : (L : ℕ) → ermap_rules L (ermap_of image) ≡ ermap_rules L (ermap_of image')
+    ermap_alike = ermap_rules_same (loose.positions 5) (u 5) (ermap_of image) (ermap_of image') ermap_but
 
     numbers_alike : volume_of image ≡ volume_of image'
-    numbers_alike = same_vol1.numbers (ermap_of image) ∙ same_ermap.numbers (vol1_of image')
+    numbers_alike =
+        vol1_numbers_same (loose.positions 7) (u 7) (vol1_of image) (vol1_of image') vol1_but (ermap_of image)
+        ∙ ermap_numbers_same (loose.positions 5) (u 5) (ermap_of image) (ermap_of image') ermap_but (vol1_of image')
 
     layout_alike : in_order (layout_list image) ≡ in_order (layout_list image')
-    layout_alike = rw (numbers_alike, e.same_length, kind_of 5 front5, kind_of 7 front7, same_vol1.rules, same_vol1.access)
+    layout_alike =
+        rw (
+          numbers_alike,
+          e.same_length,
+          kind_of 5 front5,
+          kind_of 7 front7,
+          vol1_rules_same (loose.positions 7) (u 7) (vol1_of image) (vol1_of image') vol1_but,
+          access_same (loose.positions 7) (u 7) (vol1_of image) (vol1_of image') vol1_but,
+        )
 
   -- ---- THE SECTORS, where they are known
   module _ (known : SectorsKnown image) where
@@ -228,7 +241,7 @@ module _ (loose : Loose) (u : NoneJudged loose) (image image' : List ℕ) (e : E
 
     later : in_order (later_list (volume_of image) image) ≡ in_order (later_list (volume_of image') image')
     later =
-        later_alike (volume_of image) image image' (known_numbers image known) front_kinds (λ n behind l. or_failed loose (volume_of image) image image' n (e.sectors known n behind l)) ((same_ermap readable).rules (volume_of image).L)
+        later_alike (volume_of image) image image' (known_numbers image known) front_kinds (λ n behind l. or_failed loose (volume_of image) image image' n (e.sectors known n behind l)) (ermap_alike readable (volume_of image).L)
         ∙ ap (λ (g : Geometry). in_order (later_list g image')) (numbers_alike readable)
 
   -- THE JUDGEMENT
@@ -253,23 +266,19 @@ module _ (loose : Loose) (u : NoneJudged loose) (image image' : List ℕ) (e : E
           (rw e.same_length) r (sym readable_alike ∙ r)
 
 -- THE OTHER WAY ROUND
-module _ (positions : ℕ → ℕ → Type 0) (bodies : Type 0) (u : NoneJudged (AtPositions positions bodies)) where
-  abbrev loose : Loose
-  loose = AtPositions positions bodies
-
-  swap_front : (image image' : List ℕ) (sector : ℕ) → FrontAlike loose image image' sector → FrontAlike loose image' image sector
-  swap_front image image' sector (inl s) = inl (sym s.0, record { same_length = sym s.1.same_length; same_at = λ i f. sym (s.1.same_at i f) })
-  swap_front image image' sector (inr f) = inr (f.1, f.0, f.2)
-
-  pub equal_swap : (image image' : List ℕ) → EqualBut loose image image' → EqualBut loose image' image
-  equal_swap image image' e =
-      record {
-        same_length = sym e.same_length;
-        front = λ sector l m. swap_front image image' sector (e.front sector l m);
-        sectors = λ known n behind l.
-            let r : refusal2 image ≡ Passed = readable_alike loose u image image' e ∙ (order_each _ known).1.0 in
-            let q = numbers_alike loose u image image' e r in
-            subst (λ (g : Geometry). SameOrLoose loose g image' image n) q
-            (swap_sector loose (volume_of image) image image' n
-            (e.sectors (layout_alike loose u image image' e r ∙ known) n behind (subst (λ (g : Geometry). n < sector_count g) (sym q) l)));
-      }
+pub equal_swap : (loose : Loose) → NoneJudged loose → (image image' : List ℕ) → EqualBut loose image image' → EqualBut loose image' image
+equal_swap loose u image image' e =
+    record {
+      same_length = sym e.same_length;
+      front = λ sector l m. swap sector (e.front sector l m);
+      sectors = λ known n behind l.
+          let r : refusal2 image ≡ Passed = readable_alike loose u image image' e ∙ (order_each _ known).1.0 in
+          let q = numbers_alike loose u image image' e r in
+          subst (λ (g : Geometry). SameOrLoose loose g image' image n) q
+          (swap_sector loose (volume_of image) image image' n
+          (e.sectors (layout_alike loose u image image' e r ∙ known) n behind (subst (λ (g : Geometry). n < sector_count g) (sym q) l)));
+    }
+  where
+    swap : (sector : ℕ) → FrontAlike loose image image' sector → FrontAlike loose image' image sector
+    swap sector (inl s) = inl (sym s.0, record { same_length = sym s.1.same_length; same_at = λ i f. sym (s.1.same_at i f) })
+    swap sector (inr f) = inr (f.1, f.0, f.2)

@@ -2,7 +2,7 @@
 -- body that is not trusted is written over whole or stays where it is; sectors 01 to 07 stay.
 -- Assumes nothing.
 use Prim.Native.Nat.{ℕ, suc, ◌+◌, ◌-◌, ◌*◌, ◌<◌, ◌≤◌}
-use Rattle.std.specs.Prelude.{◌≡◌, refl, true, get_or, drop, ltb}
+use Rattle.std.specs.Prelude.{◌≡◌, true, get_or, drop, ltb}
 use Rattle.std.proofs.Math.Path.{sym}
 use Rattle.std.proofs.Common.{ap, subst, ◌∙◌, eqb-true, lt-ltb}
 use Rattle.std.proofs.Math.Logic.{inl, inr}
@@ -27,7 +27,7 @@ use Rattle.promises.specs.Images.Tiling.{sector_in_image, sector_outside}
 use Rattle.promises.specs.Images.Sectors.{sector_at}
 use Rattle.promises.specs.Images.SectorLaws.{same_kind, same_body, sector_from_bytes, index_kind_lem, index_body_lem}
 use Rattle.promises.specs.Images.Unjudged.{SameBut}
-use Rattle.promises.specs.Images.Alike.{Loose, AtPositions, Only, SameOrLoose, FrontAlike, SectorsKnown, EqualBut, alike_through}
+use Rattle.promises.specs.Images.Alike.{Loose, Only, SameOrLoose, FrontAlike, SectorsKnown, EqualBut, alike_through}
 use Rattle.promises.specs.Images.ByteSectors.{same_byte}
 use Rattle.promises.specs.Volumes.Judging.{accepted}
 use Rattle.promises.specs.Volumes.VolumeNumbers.{Numbers, index_sectors_lem, slot_in_index, label_room}
@@ -62,11 +62,9 @@ module _ (g : Geometry) (sector : ℕ) (l : sector - 1 < index_sectors g) where
   front_body s t e = sym (index_body_lem g s sector l) ∙ same_body g s t (sector - 1) e ∙ index_body_lem g t sector l
 
   -- the same or check-failed, with or without loose positions
-  front_from : (positions : ℕ → ℕ → Type 0) (bodies : Type 0) (s t : List ℕ) → SameOrLoose (AtPositions positions bodies) g s t (sector - 1)
-      → FrontAlike (AtPositions positions bodies) s t sector
-  front_from positions bodies s t (inl e) =
-      inl (front_kind s t e, record { same_length = ap length (front_body s t e); same_at = λ i _. ap (λ (b : List ℕ). get_or b i 0) (front_body s t e) })
-  front_from positions bodies s t (inr f) = inr (failed_kind g s sector l f.0, failed_kind g t sector l f.1, f.2)
+  front_from : (loose : Loose) (s t : List ℕ) → SameOrLoose loose g s t (sector - 1) → FrontAlike loose s t sector
+  front_from loose s t (inl e) = inl (front_kind s t e, record { same_length = ap length (front_body s t e); same_at = λ i _. ap (λ (b : List ℕ). get_or b i 0) (front_body s t e) })
+  front_from loose s t (inr f) = inr (failed_kind g s sector l f.0, failed_kind g t sector l f.1, f.2)
 
   -- of images in which they are as in two that are alike
   front_through : (loose : Loose) (s s' t t' : List ℕ) → sector_at g s (sector - 1) ≡ sector_at g t (sector - 1)
@@ -82,10 +80,7 @@ equal_from loose image image' g j a =
 
 -- SUCH IMAGES: any bytes are laid over the body of a check-failed sector
 module _ (g : Geometry) (ns : Numbers g) (image : List ℕ) (l : WholeImage g image) (n : ℕ) (inside : n < sector_count g) (f : check_failed g image n ≡ true)
-    (new : List ℕ) (size : length new ≡ body_size g n) (positions : ℕ → ℕ → Type 0) (bodies : Type 0) (any : bodies) where
-  abbrev loose : Loose
-  loose = AtPositions positions bodies
-
+    (new : List ℕ) (size : length new ≡ body_size g n) (loose : Loose) (any : loose.bodies) where
   abbrev laid : List ℕ
   laid = splice (body_offset g n) new image
 
@@ -116,94 +111,66 @@ module _ (g : Geometry) (ns : Numbers g) (image : List ℕ) (l : WholeImage g im
   body_alike =
       record {
         same_length = sym (splice_length (body_offset g n) new image room);
-        front = λ sector low high. front_from g sector (omega (arith, index_sectors_lem g ns)) positions bodies image laid (laid_alike (sector - 1));
+        front = λ sector low high. front_from g sector (omega (arith, index_sectors_lem g ns)) loose image laid (laid_alike (sector - 1));
         sectors = λ k _. laid_alike k;
       }
 
-pub failed_body_any : (positions : ℕ → ℕ → Type 0) (bodies : Type 0) → bodies → (image : List ℕ) (n : ℕ) (new : List ℕ) → SectorsKnown image
-    → n < sector_count (volume_of image) → check_failed (volume_of image) image n ≡ true → length new ≡ body_size (volume_of image) n
-    → EqualBut (AtPositions positions bodies) image (splice (body_offset (volume_of image) n) new image)
-failed_body_any positions bodies any image n new known inside f size =
-    equal_known (AtPositions positions bodies) image _
-    (body_alike (volume_of image) (known_numbers image known) image (known_whole image known) n inside f new size positions bodies any)
+pub failed_body_any : (loose : Loose) → loose.bodies → (image : List ℕ) (n : ℕ) (new : List ℕ) → SectorsKnown image → n < sector_count (volume_of image)
+    → check_failed (volume_of image) image n ≡ true → length new ≡ body_size (volume_of image) n → EqualBut loose image (splice (body_offset (volume_of image) n) new image)
+failed_body_any loose any image n new known inside f size =
+    equal_known loose image _ (body_alike (volume_of image) (known_numbers image known) image (known_whole image known) n inside f new size loose any)
 
--- byte i of an image is at no position of sectors 01 to 07 that is loose
-abbrev pub Fast : (ℕ → ℕ → Type 0) → ℕ → Type 0
-Fast positions i = (sector p : ℕ) → 1 ≤ sector → sector ≤ 7 → 1 ≤ p → p ≤ 128 → i ≡ (sector - 1) * 129 + p → positions sector p → ⊥
-
--- SUCH IMAGES: they have the same bytes but at such positions
-module _ (positions : ℕ → ℕ → Type 0) (image image' : List ℕ) (same_size : length image ≡ length image')
-    (elsewhere : (i : ℕ) → Fast positions i → get_or image i 0 ≡ get_or image' i 0) where
-  -- a byte of a body, as a byte of the image
-  in_body : (t : List ℕ) (s i : ℕ) → i < 128 → get_or (index_body t s) i 0 ≡ get_or t ((s - 1) * 129 + 1 + i) 0
-  unfolding index_body
-  in_body t s i l = get_or-take 128 (drop ((s - 1) * 129 + 1) t) i 0 l ∙ get_or-drop ((s - 1) * 129 + 1) t i 0
-
-  body_elsewhere : (s i : ℕ) → 1 ≤ s → (positions s (i + 1) → ⊥) → i < 128 → get_or (index_body image s) i 0 ≡ get_or (index_body image' s) i 0
-  body_elsewhere s i ls ne l =
-      in_body image s i l
-      ∙ elsewhere ((s - 1) * 129 + 1 + i) (λ sector p low high one most q f.
-      let here : sector ≡ s = omega (arith, q) in
-      let there : p ≡ i + 1 = omega (arith, q) in
-      ne (subst (λ (k : ℕ). positions k (i + 1)) here (subst (positions sector) there f)))
-      ∙ sym (in_body image' s i l)
-
-  body_but : (s : ℕ) → 1 ≤ s → SameBut (positions s) (index_body image s) (index_body image' s)
-  unfolding index_body
-  body_but s ls =
-      let o = (s - 1) * 129 + 1 in
-      let short : (t : List ℕ) → length (take 128 (drop o t)) ≤ 128 = λ t. omega (arith, length-take 128 (drop o t)) in
-      record {
-        same_length = simp (length-take, length-drop, same_size);
-        same_at = λ i ne.
-            either (lt_or_le i 128)
-            (λ (l : i < 128). body_elsewhere s i ls ne l)
-            (λ (l : 128 ≤ i).
-            get_or-eq_default (take 128 (drop o image)) 0 (omega (arith, short image))
-            ∙ sym (get_or-eq_default (take 128 (drop o image')) 0 (omega (arith, short image'))));
-      }
-
-  pub positions_any : EqualBut (AtPositions positions ⊥) image image'
-  unfolding index_kind
-  positions_any =
-      record {
-        same_length = same_size;
-        front = λ s ls hs. inl (elsewhere ((s - 1) * 129) (λ sector p _ _ one most q _. omega (arith, q)), body_but s ls);
-        sectors = λ known n behind _.
-            inl (sector_from_bytes (volume_of image) image image' n same_size
-            (λ i lo _. elsewhere i (λ sector p _ seven _ most q _. omega (arith, q, slots_behind (volume_of image) (known_numbers image known) n behind))));
-      }
-
--- any byte stands at one position, which alone is loose
+-- SUCH IMAGES: any byte stands at a position of sector 01 to 07. It alone is loose
 module _ (image : List ℕ) (sector p x : ℕ) (low : 1 ≤ sector) (high : sector ≤ 7) (first : 1 ≤ p) (last : p ≤ 128)
     (inside : (sector - 1) * 129 + p < length image) where
   abbrev there : ℕ
   there = (sector - 1) * 129 + p
 
-  put_elsewhere : (i : ℕ) → (i ≡ there → ⊥) → get_or image i 0 ≡ get_or (splice there (x ∷ []) image) i 0
+  abbrev put : List ℕ
+  put = splice there (x ∷ []) image
+
+  put_length : length put ≡ length image
+  put_length = splice_length there (x ∷ []) image (omega arith)
+
+  put_elsewhere : (i : ℕ) → (i ≡ there → ⊥) → get_or image i 0 ≡ get_or put i 0
   put_elsewhere i ne =
       sym (splice_outside there (x ∷ []) image (omega arith) i
       (either (lt_or_le i there) (λ (l : i < there). inl l) (λ (l : there ≤ i). inr (omega (arith, ne)))))
 
-  pub unjudged_any : EqualBut (Only sector p) image (splice there (x ∷ []) image)
-  unjudged_any =
-      positions_any (λ s q. (s ≡ sector) × (q ≡ p)) image _ (sym (splice_length there (x ∷ []) image (omega arith)))
-      (λ i fast. put_elsewhere i (λ q. fast sector p low high first last q (refl, refl)))
+  -- a byte of another sector, or at another position
+  body_elsewhere : (s i : ℕ) → 1 ≤ s → ((Only sector p).positions s (i + 1) → ⊥) → i < 128 → get_or (index_body image s) i 0 ≡ get_or (index_body put s) i 0
+  unfolding index_body
+  body_elsewhere s i ls ne l =
+      let o = (s - 1) * 129 + 1 in
+      get_or-take 128 (drop o image) i 0 l ∙ get_or-drop o image i 0
+      ∙ put_elsewhere (o + i) (λ (q : o + i ≡ there). ne (omega (arith, q), omega (arith, q)))
+      ∙ sym (get_or-take 128 (drop o put) i 0 l ∙ get_or-drop o put i 0)
 
--- WHAT PASSES BY ONE RULE MAY PASS BY ANOTHER
-pub equal_by : (loose loose' : Loose) (image image' : List ℕ) → (loose.bodies → loose'.bodies)
-    → ((sector : ℕ) → 1 ≤ sector → sector ≤ 7 → loose.passes sector (index_body image sector) (index_body image' sector)
-    → loose'.passes sector (index_body image sector) (index_body image' sector)) → EqualBut loose image image' → EqualBut loose' image image'
-equal_by loose loose' image image' bodies by e =
-    record {
-      same_length = e.same_length;
-      front = λ sector low high. front sector low high (e.front sector low high);
-      sectors = λ known n behind l. either (e.sectors known n behind l) (λ s. inl s) (λ f. inr (f.0, f.1, bodies f.2));
-    }
-  where
-    front : (sector : ℕ) → 1 ≤ sector → sector ≤ 7 → FrontAlike loose image image' sector → FrontAlike loose' image image' sector
-    front sector low high (inl s) = inl (s.0, by sector low high s.1)
-    front sector low high (inr f) = inr (f.0, f.1, bodies f.2)
+  body_but : (s : ℕ) → 1 ≤ s → SameBut ((Only sector p).positions s) (index_body image s) (index_body put s)
+  unfolding index_body
+  body_but s ls =
+      let o = (s - 1) * 129 + 1 in
+      let short : (t : List ℕ) → length (take 128 (drop o t)) ≤ 128 = λ t. omega (arith, length-take 128 (drop o t)) in
+      record {
+        same_length = simp (length-take, length-drop, put_length);
+        same_at = λ i ne.
+            either (lt_or_le i 128)
+            (λ (l : i < 128). body_elsewhere s i ls ne l)
+            (λ (l : 128 ≤ i).
+            get_or-eq_default (take 128 (drop o image)) 0 (omega (arith, short image))
+            ∙ sym (get_or-eq_default (take 128 (drop o put)) 0 (omega (arith, short put))));
+      }
+
+  pub unjudged_any : EqualBut (Only sector p) image put
+  unfolding index_kind
+  unjudged_any =
+      record {
+        same_length = sym put_length;
+        front = λ s ls hs. inl (put_elsewhere ((s - 1) * 129) (λ (q : (s - 1) * 129 ≡ there). omega (arith, q)), body_but s ls);
+        sectors = λ known n behind _.
+            inl (sector_from_bytes (volume_of image) image put n (sym put_length)
+            (λ i lo _. put_elsewhere i (λ (q : i ≡ there). omega (arith, q, slots_behind (volume_of image) (known_numbers image known) n behind))));
+      }
 
 module _ (loose : Loose) (g : Geometry) (ns : Numbers g) where
   -- the same bytes laid over sectors that are the same leave them the same

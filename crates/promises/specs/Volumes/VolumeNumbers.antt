@@ -5,19 +5,19 @@ use Rattle.std.proofs.Common.{subst, arith, mul-le-mul, mul-le-mul_right, ltb-fa
 use Rattle.std.proofs.Math.Nat.{one-le-pow, pow-le-pow_right}
 use Rattle.standard.specs.Layout.{sector_count, index_sectors, image_length, slot_count, slot_ordinal, label_offset, vol1_of, ermap_of}
 use Rattle.standard.specs.Characters.{bytes, one_of, at, is_space, field, between, hex_digits, hex, spaces, digit_value}
-use Rattle.standard.specs.Volume.{iso5654, relies, hex_between, vol1_rules, volume_l, volume_i, volume_d, k_in, volume_k, volume_s}
+use Rattle.standard.specs.Volume.{hex_between, vol1_rules, volume_k}
 use Rattle.standard.specs.Judgement.{numbers_in, volume_of, refusal3, judged}
 use Rattle.standard.specs.Defects.{ermap_rule7, ermap_rule11, ermap_rules, defect1, defect2, is_cylinder, cylinder_in}
 use Rattle.standard.specs.Rules.{lowest_fault}
 use Rattle.standard.specs.declared.Geometry.{Geometry}
 use Rattle.standard.specs.declared.Checked.TheVariants.{Passed}
 use Rattle.standard.specs.declared.Judged.TheVariants.{Volume}
-use Rattle.promises.specs.Ground.Basics.{by_test, true_not_false, and_l, and_r, or_rest}
+use Rattle.promises.specs.Ground.Basics.{true_not_false, and_l, and_r}
 use Rattle.promises.specs.Images.Tiling.{size_index, sector_in_image}
 use Rattle.promises.specs.Volumes.Judging.{not_given, rows_each, accepted}
 use Rattle.promises.specs.Volumes.AcceptedLaws.{image_length_lem}
 
--- "81-82 hex L, 1-96; 83-84 hex I, 8-26; 85-86 hex D, 1-26; 89 hex S, 1-2"; "With k = 0 to 3 the body has 128·2^k bytes." (Those of ISO 5654 are in these ranges too.)
+-- "81-82 hex L, 1-96; 83-84 hex I, 8-26; 85-86 hex D, 1-26; 89 hex S, 1-2"; "With k = 0 to 3 the body has 128·2^k bytes."
 pub record Numbers (g : Geometry) : Type 0 where
   pub cylinders_low : 1 ≤ g.L
   pub cylinders : g.L ≤ 96
@@ -37,7 +37,7 @@ hex_bounds low high f h =
     let b = and_r (hex_digits f) _ h in
     (leb-true low (hex f) (and_l (leb low (hex f)) _ b), leb-true (hex f) high (and_r (leb low (hex f)) _ b))
 
-pub kinds_few : (c : ℕ) → one_of (bytes " 123") c ≡ true → k_in c ≤ 3
+pub kinds_few : (c : ℕ) → one_of (bytes " 123") c ≡ true → cond (is_space c) 0 (digit_value c) ≤ 3
 unfolding one_of digit_value
 kinds_few c h = go (eqb c 32) (eqb c 49) (eqb c 50) (eqb c 51) refl refl refl refl
   where
@@ -48,75 +48,28 @@ kinds_few c h = go (eqb c 32) (eqb c 49) (eqb c 50) (eqb c 51) refl refl refl re
     go false false false true e f k l = omega (arith, eqb-true c 51 l)
     go false false false false e f k l = absurd (true_not_false (one_of (bytes " 123") c) h (rw (e, f, k, l)))
 
--- the numbers of a VOL1 without a fault, one by one
-pub record Vol1Numbers (v : List ℕ) : Type 0 where
-  pub L : (1 ≤ volume_l v) × (volume_l v ≤ 96)
-  pub I : (8 ≤ volume_i v) × (volume_i v ≤ 26)
-  pub D : (1 ≤ volume_d v) × (volume_d v ≤ 26)
-  pub S : (1 ≤ volume_s v) × (volume_s v ≤ 2)
-  pub k : volume_k v ≤ 3
-
--- the rules of the five fields that hold them
-pub record FieldRules (v : List ℕ) : Type 0 where
-  pub size : one_of (bytes " 123") (at v 76) ≡ true
-  pub cylinders : hex_between 1 96 (field v 81 82) ≡ true
-  pub index : hex_between 8 26 (field v 83 84) ≡ true
-  pub sectors : hex_between 1 26 (field v 85 86) ≡ true
-  pub sides : hex_between 1 2 (field v 89 89) ≡ true
-
--- a label that describes the volume: they hold
-pub field_rules : (v : List ℕ) → relies v ≡ false → lowest_fault (vol1_rules v) ≡ 0 → FieldRules v
-unfolding vol1_rules
-field_rules v d z =
-    let (r1, (r5, (r11, (r38, (r72, (r76, (r77, (r80, (r81, (r83, (r85, (r89, _)))))))))))) = rows_each _ z refl in
-    record {
-      size = or_rest (relies v) _ d r76;
-      cylinders = or_rest (relies v) _ d r81;
-      index = or_rest (relies v) _ d r83;
-      sectors = or_rest (relies v) _ d r85;
-      sides = or_rest (relies v) _ d r89;
-    }
-
--- described by the fields, or those of ISO 5654 (2026-06)
-pub vol1_numbers : (v : List ℕ) → lowest_fault (vol1_rules v) ≡ 0 → Vol1Numbers v
-vol1_numbers v z =
-    by_test (relies v)
-    (λ (o : relies v ≡ true).
-    record {
-      L = rw o (omega arith, omega arith);
-      I = rw o (omega arith, omega arith);
-      D = rw o (omega arith, omega arith);
-      S = rw o (omega arith, omega arith);
-      k = rw o (omega arith);
-    })
-    (λ (d : relies v ≡ false).
-    let r = field_rules v d z in
-    record {
-      L = rw d (hex_bounds 1 96 (field v 81 82) r.cylinders);
-      I = rw d (hex_bounds 8 26 (field v 83 84) r.index);
-      D = rw d (hex_bounds 1 26 (field v 85 86) r.sectors);
-      S = rw d (hex_bounds 1 2 (field v 89 89) r.sides);
-      k = rw d (kinds_few (at v 76) r.size);
-    })
-
 pub of_rules : (image : List ℕ) → lowest_fault (vol1_rules (vol1_of image)) ≡ 0 → Numbers (volume_of image)
-unfolding numbers_in
+unfolding vol1_rules numbers_in
 of_rules image z =
+    let (r1, (r5, (r11, (r38, (r72, (r76, (r77, (r80, (r81, (r83, (r85, (r89, _)))))))))))) = rows_each _ z refl in
     let v = vol1_of image in
-    let n = vol1_numbers v z in
+    let l = hex_bounds 1 96 (field v 81 82) r81 in
+    let i = hex_bounds 8 26 (field v 83 84) r83 in
+    let d = hex_bounds 1 26 (field v 85 86) r85 in
+    let s = hex_bounds 1 2 (field v 89 89) r89 in
     record {
-      cylinders_low = n.L.0;
-      cylinders = n.L.1;
-      index_low = n.I.0;
-      index_high = n.I.1;
-      sectors_low = n.D.0;
-      sectors = n.D.1;
-      side_low = n.S.0;
-      side_high = n.S.1;
-      kind_high = n.k;
+      cylinders_low = l.0;
+      cylinders = l.1;
+      index_low = i.0;
+      index_high = i.1;
+      sectors_low = d.0;
+      sectors = d.1;
+      side_low = s.0;
+      side_high = s.1;
+      kind_high = kinds_few (at v 76) r76;
       size_is = refl;
       size_low = omega (arith, one-le-pow (volume_k v) 2 (omega arith));
-      size_high = omega (arith, pow-le-pow_right {n = 2} (omega arith) {j = 3} n.k);
+      size_high = omega (arith, pow-le-pow_right {n = 2} (omega arith) {j = 3} (kinds_few (at v 76) r76));
     }
 
 -- where 3 is not given VOL1 has no fault
