@@ -1,5 +1,7 @@
 // The values that document 01 speaks of, as the code and the contracts know them. Every type is plain data, passed by value.
 // What the values mean is said in specs/, a file for each section of the document.
+#![tactic(auto)]
+
 ghost use Rattle.std.specs.Prelude.{◌≡◌, ◌+◌, ◌<◌, get_or, ltb};
 ghost use Rattle.standard.specs.Refusals.{refuse, refuse_at};
 ghost use Rattle.standard.specs.Characters.{is_digit, digit_value};
