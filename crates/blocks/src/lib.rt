@@ -17,14 +17,14 @@ use layout::{check_failed, kind_after, kind_of};
 use standard::{Geometry, byte_at, wide};
 
 // A cursor in an extent, and a byte of the record under it.
-#[derive(Drop)]
+#[derive(Clone, Copy)]
 pub struct Spot {
     pub c: Cursor,
     pub i: u64,
 }
 
 // Five bytes: as many as a control word has at most.
-#[derive(Drop)]
+#[derive(Clone, Copy)]
 pub struct Five {
     pub a: u64,
     pub b: u64,

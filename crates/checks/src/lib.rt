@@ -15,7 +15,7 @@ use fields::{
 use standard::{Address, FiveDigits, Geometry, wide};
 
 // What the rows up to 40 have read: the level and its verdict, the format, B, the rank of the start.
-#[derive(Drop)]
+#[derive(Clone, Copy)]
 pub struct Seen {
     pub level: u64,
     pub right44: bool,

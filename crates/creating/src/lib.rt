@@ -15,7 +15,7 @@ use vacancy::{lowest_deleted, lowest_run};
 use volume::{judge, refusal_of};
 
 // One of the refusals 10, 12, 28, 29; or the slot and the number, from 0, of the first address.
-#[derive(Drop)]
+#[derive(Clone, Copy)]
 pub enum Planned {
     Stop(Refusal),
     Go(u64, u64),

@@ -12,14 +12,14 @@ use layout::{first_byte, incorrect_mark, kind_after, kind_of, ordinal_of};
 use standard::{Address, Geometry, wide};
 
 // An address of an extent, and the number of its addresses from there on.
-#[derive(Drop)]
+#[derive(Clone, Copy)]
 pub struct Cursor {
     pub at: Address,
     pub left: u64,
 }
 
 // What one walk tells: the first wrong record, by its ordinal; or that every record is good; or that some are defective.
-#[derive(Drop)]
+#[derive(Clone, Copy)]
 pub enum Condition {
     Wrong(u64),
     Whole,

@@ -1,5 +1,7 @@
 // The characters and the numbers of a label's fields. All functions serve the layers above (inner): a `requires` states a field's width, or a bound that
 // the contracts of the callers give.
+#![tactic(auto)]
+
 ghost use Rattle.std.specs.Prelude.{◌≡◌, ◌&&◌, ◌||◌, not, [], ◌∷◌, ◌+◌, ◌-◌, ◌*◌, ◌%◌, ◌<◌, ◌≤◌, length, get_or, drop, eqb};
 ghost use Rattle.std.proofs.Math.Seq.{paste};
 ghost use Rattle.standard.specs.Characters.{between, one_of, same, every, a_set, is_hex, digits, digit_value, number, hex_value, hex, spaces_or_number};
@@ -76,7 +78,7 @@ pub fn one_of_4(c: u64, w: u64, x: u64, y: u64, z: u64) -> bool
 }
 
 // The kinds of characters that fields are made of.
-#[derive(Drop)]
+#[derive(Clone, Copy)]
 pub enum Class {
     Aset,
     Space,
@@ -126,7 +128,7 @@ pub fn same_as(f: &[u8], w: &[u8]) -> bool
 }
 
 // A number, where there is one.
-#[derive(Drop)]
+#[derive(Clone, Copy)]
 pub enum Perhaps {
     Nothing,
     Number(u64),

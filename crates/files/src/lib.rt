@@ -18,7 +18,7 @@ use volume::{judge, refusal_of};
 
 // What a label says of its file, with what follows from it: m, "blocks take m good records in turn"; the extent, from `start` on `size` addresses; whether the
 // data end lies `inside` it; and how many addresses lie `before` the data end.
-#[derive(Drop)]
+#[derive(Clone, Copy)]
 pub struct Numbers {
     pub B: u64,
     pub R: u64,

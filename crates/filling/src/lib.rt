@@ -17,7 +17,7 @@ use layout::{kind_behind, kind_of};
 use standard::{Geometry, wide};
 
 // A record that is begun, the number of its bytes that are laid, and where the next byte stands in the image.
-#[derive(Drop)]
+#[derive(Clone, Copy)]
 pub struct Pen {
     pub c: Cursor,
     pub i: u64,

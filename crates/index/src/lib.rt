@@ -98,7 +98,7 @@ pub fn is_known(g: Geometry, image: &[u8], slot: u64) -> bool
 }
 
 // An extent by the ranks of its start and its end. A slot with no label has one that begins behind every end, so that it meets none.
-#[derive(Drop)]
+#[derive(Clone, Copy)]
 pub struct Extent {
     pub start: u32,
     pub end: u32,

@@ -10,7 +10,7 @@ use fields::{Class, all_of, is, number_4, number_5, one_of_1, one_of_2, rank_of,
 use standard::{Address, Geometry, wide};
 
 // "40 space or F (fixed), V, S"
-#[derive(Drop)]
+#[derive(Clone, Copy)]
 pub enum Form {
     Fixed,
     Variable,

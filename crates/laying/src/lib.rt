@@ -20,7 +20,7 @@ use sizing::least_for;
 use standard::Geometry;
 
 // How records are laid one by one: as V, or as S; whether one may stand behind another in its block; B, and the bytes of a block's m physical records.
-#[derive(Drop)]
+#[derive(Clone, Copy)]
 pub struct Shape {
     pub spanned: bool,
     pub joined: bool,
@@ -29,7 +29,7 @@ pub struct Shape {
 }
 
 // Where the writer stands: its pen, the room left in the current block, and the bytes that are left of its physical records.
-#[derive(Drop)]
+#[derive(Clone, Copy)]
 pub struct Desk {
     pub p: Pen,
     pub room: u64,

@@ -14,14 +14,14 @@ use reading::read_on;
 use standard::{Answer, Place};
 
 // What an opened file carries beside the image: what opening it said, with the seat of the block where the last reading began.
-#[derive(Drop)]
+#[derive(Clone, Copy)]
 pub struct Carried {
     pub slot: u64,
     pub stage: Stage,
 }
 
 // An answer, and what the file carries from then on.
-#[derive(Drop)]
+#[derive(Clone, Copy)]
 pub struct Told {
     pub answer: Answer,
     pub carried: Carried,
@@ -65,7 +65,7 @@ fn answer_on(image: &[u8], carried: Carried, salvage: bool, place: Place, out: &
 }
 
 // An opened file: the lent image, and what is carried beside it.
-#[derive(Drop)]
+#[derive(Clone, Copy)]
 pub struct OpenedFile<'a> {
     pub image: &'a [u8],
     pub carried: Carried,

@@ -21,7 +21,7 @@ use volume::{judge, refusal_of};
 
 // The numbers of an opened file: its volume's, its slot, a cursor on its extent's start, whether every record of the extent is good; "40 space or F (fixed),
 // V, S"; "63 space, or B for blocked"; m, "blocks take m good records in turn"; B, R and U by the document's letters; and the number of its blocks.
-#[derive(Drop)]
+#[derive(Clone, Copy)]
 pub struct FileNumbers {
     pub g: Geometry,
     pub slot: u64,
@@ -37,7 +37,7 @@ pub struct FileNumbers {
 }
 
 // One of the refusals 13 to 18, or the file's numbers.
-#[derive(Drop)]
+#[derive(Clone, Copy)]
 pub enum Opening {
     Shut(Refusal),
     Open(FileNumbers),
@@ -167,7 +167,7 @@ fn block_start(image: &[u8], f: FileNumbers, b: u64) -> Cursor
 }
 
 // A block of the file, and a cursor on its first record.
-#[derive(Drop)]
+#[derive(Clone, Copy)]
 pub struct Seat {
     pub block: u64,
     pub at: Cursor,
@@ -207,7 +207,7 @@ pub fn seat_at(image: &[u8], f: FileNumbers, s: Seat, b: u64) -> Seat
 }
 
 // What opening a file said: one of the refusals 1 to 18; or its numbers, and the seat of one of its blocks, from which reading goes on.
-#[derive(Drop)]
+#[derive(Clone, Copy)]
 pub enum Stage {
     Closed(Refusal),
     Going(FileNumbers, Seat),

@@ -9,7 +9,7 @@ use opened::{ask_next, carry};
 use standard::{Answer, Place};
 
 // Where an answer leads: to the next place, or nowhere.
-#[derive(Drop)]
+#[derive(Clone, Copy)]
 pub enum Led {
     On(Place),
     Stop,

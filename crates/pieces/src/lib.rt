@@ -16,7 +16,7 @@ use standard::{Geometry, digit, is_digit};
 
 // What stands there: fill alone, or nothing; a rule is broken; a record or segment, by its `0`-`3` as a number (0 for a record of F or V, which is a whole) and
 // its size, control word counted.
-#[derive(Drop)]
+#[derive(Clone, Copy)]
 pub enum Seen {
     Blank,
     Broken,

@@ -193,7 +193,7 @@ fn stand_at(form: Form, salvage: bool, place: Place) -> Stand
 }
 
 // An answer, and the seat of the block where its reading began: the next reading goes on from there.
-#[derive(Drop)]
+#[derive(Clone, Copy)]
 pub struct Heard {
     pub answer: Answer,
     pub seat: Seat,

@@ -10,7 +10,7 @@ use labels::Form;
 use standard::{Checked, Refusal};
 
 // Where a writer stands: the room left in the current block, and the blocks begun.
-#[derive(Drop)]
+#[derive(Clone, Copy)]
 pub struct Level {
     pub room: u64,
     pub blocks: u64,

@@ -10,7 +10,7 @@ ghost use Rattle.standard.specs.Places.{start, behind_at, next_block, after_gap}
 
 // A refusal: its number in the document's table, and its places, 0 where it has none. (Document 01 has two places at most; the third is kept for a later
 // request.)
-#[derive(Drop)]
+#[derive(Clone, Copy)]
 pub struct Refusal {
     pub number: u8,
     pub first: u64,
@@ -41,14 +41,14 @@ impl Refusal {
 }
 
 // What a row of rules finds: nothing, or the first refusal.
-#[derive(Drop)]
+#[derive(Clone, Copy)]
 pub enum Checked {
     Passed,
     Stopped(Refusal),
 }
 
 // The numbers of a volume, by the document's letters. P is 128·2^k. A defective cylinder that is absent is 0.
-#[derive(Drop)]
+#[derive(Clone, Copy)]
 pub struct Geometry {
     pub L: u8,
     pub I: u8,
@@ -61,28 +61,28 @@ pub struct Geometry {
 }
 
 // The judgement of a volume: one of the refusals 1 to 12, or its numbers.
-#[derive(Drop)]
+#[derive(Clone, Copy)]
 pub enum Judged {
     Refused(Refusal),
     Volume(Geometry),
 }
 
 // Finding a file: the slot of its label, and the label's offset in the image.
-#[derive(Drop)]
+#[derive(Clone, Copy)]
 pub enum Found {
     Unfound(Refusal),
     At(u64, u64),
 }
 
 // A count of blocks or of free records.
-#[derive(Drop)]
+#[derive(Clone, Copy)]
 pub enum Counted {
     Uncounted(Refusal),
     Count(u64),
 }
 
 // Reading or salvaging a place: a record's length and the place behind it, a gap and the place behind it, or End and its place.
-#[derive(Drop)]
+#[derive(Clone, Copy)]
 pub enum Answer {
     Unanswered(Refusal),
     Record(u64, Place),
@@ -91,28 +91,28 @@ pub enum Answer {
 }
 
 // Writing a file: the number of blocks written.
-#[derive(Drop)]
+#[derive(Clone, Copy)]
 pub enum Written {
     Unwritten(Refusal),
     Blocks(u64),
 }
 
 // Creating a file (request 2026-01): the slot of its label, and the start of its extent.
-#[derive(Drop)]
+#[derive(Clone, Copy)]
 pub enum Created {
     Uncreated(Refusal),
     Placed(u64, Address),
 }
 
 // A run of free addresses: the number, from 0, of its first address.
-#[derive(Drop)]
+#[derive(Clone, Copy)]
 pub enum Run {
     NoRun,
     RunAt(u64),
 }
 
 // An address of a physical record.
-#[derive(Drop)]
+#[derive(Clone, Copy)]
 pub struct Address {
     pub cylinder: u64,
     pub side: u64,
@@ -120,7 +120,7 @@ pub struct Address {
 }
 
 // What five bytes of a label say: an address, legal on the volume or not; or they are not five digits.
-#[derive(Drop)]
+#[derive(Clone, Copy)]
 pub enum FiveDigits {
     NotDigits,
     Digits(Address),
@@ -200,7 +200,7 @@ impl Address {
 }
 
 // A place in a file: a block number and an offset, with a mark "after a gap".
-#[derive(Drop)]
+#[derive(Clone, Copy)]
 pub struct Place {
     pub block: u64,
     pub offset: u64,

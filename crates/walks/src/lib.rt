@@ -18,7 +18,7 @@ use standard::{Place, Refusal};
 
 // Where a reader stands: between records; at a block's start after a gap; inside a spanned record, with the length of its body so far and the block where
 // it began.
-#[derive(Drop)]
+#[derive(Clone, Copy)]
 pub enum Stand {
     Fresh,
     Marked,
@@ -26,7 +26,7 @@ pub enum Stand {
 }
 
 // What a segment does to a reader: it completes a record of a length, begun in a block; it is taken in; it breaks a rule.
-#[derive(Drop)]
+#[derive(Clone, Copy)]
 pub enum Move {
     Deliver(u64, u64),
     Carry(Stand),
@@ -35,7 +35,7 @@ pub enum Move {
 
 // What one reading of a place meets, without the bytes: a record by its length, the block where it began and the place behind it; a lost block by the place
 // behind it; the end; a refusal.
-#[derive(Drop)]
+#[derive(Clone, Copy)]
 pub enum Measured {
     Took(u64, u64, Place),
     Lost(Place),
@@ -104,7 +104,7 @@ fn meet(limit: u64, s: Stand, digit: u64, n: u64, block: u64) -> Move
 }
 
 // A reader on its way: a place of the file, the first record of its block, and where the reader stands.
-#[derive(Drop)]
+#[derive(Clone, Copy)]
 pub struct Walk {
     pub place: Place,
     pub at: Cursor,
@@ -112,7 +112,7 @@ pub struct Walk {
 }
 
 // One turn of a reader: an answer, or the way on.
-#[derive(Drop)]
+#[derive(Clone, Copy)]
 pub enum Turn {
     Done(Measured),
     On(Walk),

@@ -28,7 +28,7 @@ use standard::{Address, Checked, Geometry, Judged, Refusal, Written};
 use volume::{judge, refusal_of};
 
 // What an accepted write does: the extent from its start on, how its records are laid, the number of blocks, and U and the data end as they will stand.
-#[derive(Drop)]
+#[derive(Clone, Copy)]
 pub struct Plan {
     pub first: Cursor,
     pub form: Form,
@@ -41,7 +41,7 @@ pub struct Plan {
 }
 
 // One of the refusals 13 to 17 and 24 to 27, or the plan.
-#[derive(Drop)]
+#[derive(Clone, Copy)]
 pub enum Planned {
     Stop(Refusal),
     Go(Plan),
