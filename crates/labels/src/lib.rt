@@ -1,5 +1,7 @@
 // A label: what its fields say. (Which of its rules is broken is said in `checks` and `rules`.) A label is the 128 bytes of its slot; all functions serve the
 // layers above (inner).
+#![tactic(auto)]
+
 ghost use Rattle.std.specs.Prelude.{◌≡◌, ◌&&◌, ◌||◌, not, ◌<◌, length};
 ghost use Rattle.standard.specs.Characters.{bytes, field, same};
 ghost use Rattle.standard.specs.Addresses.{address_in, rank};

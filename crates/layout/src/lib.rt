@@ -1,5 +1,7 @@
 // All access to the image: where a sector, a label or an address lies, and the bytes there. Everything here is inner: the layers above call it, and
 // meet what it requires.
+#![tactic(auto)]
+
 ghost use Rattle.std.specs.Prelude.{◌≡◌, true, ◌+◌, ◌-◌, ◌*◌, ◌<◌, ◌≤◌, length, get_or, take, drop, eqb};
 ghost use Rattle.standard.specs.Layout.{index_sectors, k_at, kind_offset, body_offset, image_length, kind_at, first_byte, incorrect_mark, check_failed, index_kind, index_body, slot_count, slot_ordinal, label_offset, label_at};
 ghost use Rattle.standard.specs.Defects.{skip_one, physical};
