@@ -1,5 +1,7 @@
 // The rules of a label's fields, one by one. What a rule reads of other fields is handed to it, read and judged: "A part of a rule that reads another field
 // is not applied while that field is itself at fault." All functions serve the layer above (inner), which judges the fields in order.
+#![tactic(auto)]
+
 ghost use Rattle.std.specs.Prelude.{◌≡◌, true, ◌&&◌, ◌||◌, ◌+◌, ◌-◌, ◌≤◌, length, take, drop};
 ghost use Rattle.standard.specs.Characters.{bytes, field, at, same, in_a_set, spaces};
 ghost use Rattle.standard.specs.Addresses.{rank};

@@ -1,4 +1,6 @@
 // The label slots of the index cylinder: refusals 8 to 12, and what is asked of a slot afterwards. Everything here is inner.
+#![tactic(auto)]
+
 ghost use Rattle.std.specs.Prelude.{◌≡◌, ◌+◌, ◌-◌, ◌*◌, ◌<◌, ◌≤◌, true, ◌&&◌, length, nat_le, slice_index};
 ghost use Rattle.standard.specs.Layout.{kind_at, slot_count, slot_ordinal, label_at};
 ghost use Rattle.standard.specs.Labels.{known_level, name_of};

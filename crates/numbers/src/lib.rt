@@ -1,5 +1,7 @@
 // VOL1 and ERMAP: which of their rules is broken, and the numbers that they give a volume. A label is the 128 bytes of its sector; all functions serve the
 // layers above (inner).
+#![tactic(auto)]
+
 ghost use Rattle.std.specs.Prelude.{◌≡◌, ◌&&◌, ◌||◌, not, [], ◌∷◌, ◌+◌, ◌-◌, ◌*◌, ◌^◌, ◌<◌, ◌≤◌, length, get_or, take, drop, ltb, leb};
 ghost use Rattle.standard.specs.Characters.{bytes, between, one_of, same, field, in_a_set, spaces, is_hex, hex};
 ghost use Rattle.standard.specs.Rules.{lowest_fault};

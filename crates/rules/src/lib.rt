@@ -4,6 +4,8 @@
 // reads another field is not applied while that field is itself at fault" so matters only where a field reads a higher one: 23 reads 40, 54 and 58 read 63.
 // The verdicts of 40 and 63 are made before those fields are judged, and handed on. (6, 23 and 40 read 44 too, but where 44 is at fault no level's test holds.)
 // All functions serve the layers above (inner).
+#![tactic(auto)]
+
 ghost use Rattle.std.specs.Prelude.{◌≡◌, true, [], ◌∷◌, ◌<◌, length, get_or, drop};
 ghost use Rattle.standard.specs.Characters.{one_of, a_set};
 ghost use Rattle.standard.specs.Addresses.{rank};

@@ -1,4 +1,6 @@
 // The judgement of a volume, refusals 1 to 12, and what a refused volume says to a file call. What a customer calls has no `requires`.
+#![tactic(auto)]
+
 ghost use Rattle.std.specs.Prelude.{◌≡◌, ◌≤◌, length};
 ghost use Rattle.standard.specs.Rules.{lowest_fault};
 ghost use Rattle.standard.specs.Volume.{vol1_rules};
