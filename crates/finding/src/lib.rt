@@ -1,5 +1,7 @@
 // Finding a file of the volume: by its name or its slot, its label's bytes in the image; and what the calls on a file ask of its slot first. What a customer
 // calls has no `requires`.
+#![tactic(auto)]
+
 ghost use Rattle.std.specs.Prelude.{◌≡◌, true, [], ◌≤◌};
 ghost use Rattle.standard.specs.Refusals.{refuse, or_else};
 ghost use Rattle.standard.specs.Layout.{slot_count, label_at};
