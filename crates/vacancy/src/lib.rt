@@ -1,5 +1,7 @@
 // What is free on the volume. The free records: all data addresses less those of the labels' extents, which share none. For a new file: the lowest deleted
 // slot, and the lowest run of free addresses. What a customer calls has no `requires`.
+#![tactic(auto)]
+
 ghost use Rattle.std.specs.Prelude.{◌≡◌, cond, ◌<◌, ◌≤◌};
 ghost use Rattle.standard.specs.Layout.{slot_count, label_at};
 ghost use Rattle.standard.specs.Addresses.{address_count};

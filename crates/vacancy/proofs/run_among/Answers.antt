@@ -1,0 +1,48 @@
+-- `run_among` meets its contract: whatever start it stands at, what is looked for is still ahead.
+-- Assumes nothing.
+use mathlib.Core.Path.{◌≡◌, sym, ap, subst, ◌∙◌}
+use Prim.Native.Nat.{ℕ, ◌-◌}
+use native.Mathlib.Omega.{arith}
+use Rattle.standard.specs.Layout.{slot_count}
+use Rattle.promises.specs.Making.RunsFree.{Searched, room_start, room_full}
+use Rattle.volume.proofs.NumberLaws.{slotted_of}
+use Rattle.vacancy.specs.Passes.{past_all}
+use Rattle.vacancy.proofs.PassLaws.{pass_onward, pass_searched, pass_found}
+use Rattle.vacancy.proofs.run_among.Goals as goal
+
+-- a pass is over the extents of all slots
+passed : (c : tie.After-past-all invariant-loop decreases-loop) → c.past_all.result ≡ past_all c.before.before.before.before.before.before.before.args.starts.now c.before.before.before.before.before.before.before.args.ends.now c.before.before.before.before.before.before.before.args.n (slot_count c.before.before.before.before.before.before.before.args.g) 0 c.before.before.before.before.loop.start
+passed c =
+    let a = c.before.before.before.before.before.before.before.args in
+    c.past_all.ensures.0 ∙ ap (λ (k : ℕ). past_all a.starts.now a.ends.now a.n k 0 c.before.before.before.before.loop.start) c.before.slot-count.ensures.0
+
+pub loop-g-init : goal.loop-g-init
+loop-g-init c = (omega arith, room_start _ _ _)
+
+pub past_all-next-requires : goal.past_all-next-requires
+past_all-next-requires c =
+    (omega (arith, c.slot_count.ensures.0, (slotted_of c.args.image.now c.args.g c.requires.0).whole.few), omega arith, omega arith)
+
+pub returns-then-next-start : goal.returns-then-next-start
+returns-then-next-start c =
+    let a = c.args in
+    let w = c.loop-g in
+    sym (pass_found a.image.now a.g c.requires.0 a.starts.now a.ends.now c.requires.2 a.n c.requires.1 (omega arith) w.start (omega arith) (sym (passed c) ∙ omega arith) w.invariant.1)
+
+pub loop-g-smaller : goal.loop-g-smaller
+loop-g-smaller c =
+    let a = c.args in
+    let w = c.loop-g in
+    omega (arith, passed c, pass_onward a.starts.now a.ends.now a.n (slot_count a.g) 0 w.start)
+
+pub loop-g-preserved : goal.loop-g-preserved
+loop-g-preserved c =
+    let a = c.args in
+    let w = c.loop-g in (
+      omega arith,
+      subst (Searched a.g a.image.now a.n) (sym (passed c))
+          (pass_searched a.image.now a.g c.requires.0 a.starts.now a.ends.now c.requires.2 a.n c.requires.1 (omega arith) (slot_count a.g) 0 w.start (omega arith) w.invariant.1),
+    )
+
+pub returns : goal.returns
+returns c = sym (room_full _ _ _ c.loop-g.start (omega arith) c.loop-g.invariant.1)

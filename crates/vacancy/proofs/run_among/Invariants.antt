@@ -1,0 +1,10 @@
+-- `run_among` meets its contract: whatever start it stands at, what is looked for is still ahead.
+use Prim.Native.Nat.{◌-◌, ◌≤◌}
+use Rattle.promises.specs.Making.RunsFree.{Searched}
+use Rattle.vacancy.proofs.run_among.Given as goal
+
+abbrev pub invariant-loop-g : goal.invariant-loop-g
+invariant-loop-g l = (l.start ≤ 4294967296) × Searched l.g l.image l.n l.start
+
+abbrev pub decreases-loop-g : goal.decreases-loop-g
+decreases-loop-g l = l.all - l.start
