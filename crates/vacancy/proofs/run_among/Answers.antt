@@ -2,6 +2,7 @@
 -- Assumes nothing.
 use mathlib.Core.Path.{◌≡◌, sym, ap, subst, ◌∙◌}
 use Prim.Native.Nat.{ℕ, ◌-◌}
+use mathlib.Core.List.{List}
 use native.Mathlib.Omega.{arith}
 use Rattle.standard.specs.Layout.{slot_count}
 use Rattle.promises.specs.Making.RunsFree.{Searched, room_start, room_full}
@@ -11,10 +12,8 @@ use Rattle.vacancy.proofs.PassLaws.{pass_onward, pass_searched, pass_found}
 use Rattle.vacancy.proofs.run_among.Goals as goal
 
 -- a pass is over the extents of all slots
-passed : (c : tie.After-past-all invariant-loop decreases-loop) → c.past_all.result ≡ past_all c.before.before.before.before.before.before.before.args.starts.now c.before.before.before.before.before.before.before.args.ends.now c.before.before.before.before.before.before.before.args.n (slot_count c.before.before.before.before.before.before.before.args.g) 0 c.before.before.before.before.loop.start
-passed c =
-    let a = c.before.before.before.before.before.before.before.args in
-    c.past_all.ensures.0 ∙ ap (λ (k : ℕ). past_all a.starts.now a.ends.now a.n k 0 c.before.before.before.before.loop.start) c.before.slot-count.ensures.0
+passed : (starts ends : List ℕ) (n start : ℕ) {r k m : ℕ} → r ≡ past_all starts ends n k 0 start → k ≡ m → r ≡ past_all starts ends n m 0 start
+passed starts ends n start p q = p ∙ ap (λ (k : ℕ). past_all starts ends n k 0 start) q
 
 pub loop-g-init : goal.loop-g-init
 loop-g-init c = (omega arith, room_start _ _ _)
@@ -27,20 +26,20 @@ pub returns-then-next-start : goal.returns-then-next-start
 returns-then-next-start c =
     let a = c.args in
     let w = c.loop-g in
-    sym (pass_found a.image.now a.g c.requires.0 a.starts.now a.ends.now c.requires.2 a.n c.requires.1 (omega arith) w.start (omega arith) (sym (passed c) ∙ omega arith) w.invariant.1)
+    sym (pass_found a.image.now a.g c.requires.0 a.starts.now a.ends.now c.requires.2 a.n c.requires.1 (omega arith) w.start (omega arith) (sym (passed a.starts.now a.ends.now a.n w.start c.past_all-next.ensures.0 c.slot_count.ensures.0) ∙ omega arith) w.invariant.1)
 
 pub loop-g-smaller : goal.loop-g-smaller
 loop-g-smaller c =
     let a = c.args in
     let w = c.loop-g in
-    omega (arith, passed c, pass_onward a.starts.now a.ends.now a.n (slot_count a.g) 0 w.start)
+    omega (arith, passed a.starts.now a.ends.now a.n w.start c.past_all-next.ensures.0 c.slot_count.ensures.0, pass_onward a.starts.now a.ends.now a.n (slot_count a.g) 0 w.start)
 
 pub loop-g-preserved : goal.loop-g-preserved
 loop-g-preserved c =
     let a = c.args in
     let w = c.loop-g in (
       omega arith,
-      subst (Searched a.g a.image.now a.n) (sym (passed c))
+      subst (Searched a.g a.image.now a.n) (sym (passed a.starts.now a.ends.now a.n w.start c.past_all-next.ensures.0 c.slot_count.ensures.0))
           (pass_searched a.image.now a.g c.requires.0 a.starts.now a.ends.now c.requires.2 a.n c.requires.1 (omega arith) (slot_count a.g) 0 w.start (omega arith) w.invariant.1),
     )
 
