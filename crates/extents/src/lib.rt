@@ -1,5 +1,7 @@
 // The records of an extent: a cursor that walks them, the good ones, and what one walk tells of all. Everything here is inner: the layers above call it on
 // extents of an accepted volume.
+#![tactic(auto)]
+
 ghost use Rattle.std.specs.Prelude.{◌≡◌, true, false, cond, ◌+◌, ◌-◌, ◌<◌, ◌≤◌, length, drop};
 ghost use Rattle.standard.specs.Layout.{kind_offset};
 ghost use Rattle.standard.specs.Addresses.{legal, ordinal, address_of};
