@@ -1,4 +1,6 @@
 // A file's numbers from its label, the good records of its extent, and the number of its blocks; refusals 13, 14, 17 and 18.
+#![tactic(auto)]
+
 ghost use Rattle.std.specs.Prelude.{◌≡◌, true, false, cond, leb, ◌-◌, ◌<◌, ◌≤◌, length};
 ghost use Rattle.standard.specs.Judgement.{judged};
 ghost use Rattle.standard.specs.Files.{addresses_from, records_to_block, count_in, counted};
