@@ -1,5 +1,7 @@
 // Opening a file: its numbers, or the refusal 13 to 18 that shuts it; and where its blocks are. Everything here is inner: the layers above call it on an
 // accepted volume, or begin with the judgement of any.
+#![tactic(auto)]
+
 ghost use Rattle.std.specs.Prelude.{◌≡◌, true, [], ◌∷◌, ◌+◌, ◌<◌, ◌≤◌, length};
 ghost use Rattle.standard.specs.Refusals.{in_order};
 ghost use Rattle.standard.specs.Layout.{label_at};
