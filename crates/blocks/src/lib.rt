@@ -1,6 +1,8 @@
 // The bytes of a file's good records in turn, read where they stand in the image. A spot is a cursor and a byte of the record under it; what stands from there
 // on is a list of bytes, and the functions here read it, pass over it, copy it, and ask whether it is fill. Everything here is inner: the layers above call it on
 // extents of an accepted volume.
+#![tactic(auto)]
+
 ghost use Rattle.std.specs.Prelude.{◌≡◌, true, ◌+◌, ◌<◌, ◌≤◌, length, get_or, take, drop};
 ghost use Rattle.std.proofs.Math.Seq.{paste};
 ghost use Rattle.standard.specs.Layout.{kind_offset, body_offset};
