@@ -1,5 +1,7 @@
 // What stands at an offset of a block: fill alone, a record or segment, or a rule is broken. The bytes are read where they stand in the image. Everything here is
 // inner: the layers above call it on files of an accepted volume.
+#![tactic(auto)]
+
 ghost use Rattle.std.specs.Prelude.{◌≡◌, true, ◌<◌, ◌≤◌, length, take};
 ghost use Rattle.standard.specs.Pieces.{must_fill, look_v, look_s, look_in};
 ghost use Rattle.labels.specs.Forms.{format_for};
