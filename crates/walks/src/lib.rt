@@ -1,4 +1,6 @@
 // A reader on its way through the blocks of an opened file, one turn at a time: what stands at its place, and what that does to it. Everything here is inner.
+#![tactic(auto)]
+
 ghost use Rattle.std.specs.Prelude.{◌≡◌, false, ◌+◌, ◌-◌, ◌*◌, ◌<◌, ◌≤◌, length};
 ghost use Rattle.standard.specs.Labels.{spanned};
 ghost use Rattle.standard.specs.Pieces.{is_fill};
