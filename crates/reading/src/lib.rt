@@ -1,5 +1,7 @@
 // Reading and salvage from a place. What stands there is measured first, and only an answer that is certain is laid into the output: a gap, End and a refusal
 // change no byte of it.
+#![tactic(auto)]
+
 ghost use Rattle.std.specs.Prelude.{◌≡◌, true, false, [], ◌+◌, ◌-◌, ◌<◌, ◌≤◌, length};
 ghost use Rattle.std.proofs.Math.Seq.{paste};
 ghost use Rattle.standard.specs.Records.{plain, salvage, entering};

@@ -1,0 +1,24 @@
+-- By what judging and opening said: the refusal, or the place.
+-- Assumes nothing.
+use Rattle.opening.proofs.OpenedLaws.{open_opened, staged_closed, staged_going}
+use Rattle.walks.specs.Walks.{mode_of}
+use Rattle.reading.proofs.ReplyLaws.{answer_closed, answer_going}
+use Rattle.reading.proofs.answer_at.Goals as goal
+
+pub read_on-heard-requires : goal.read_on-heard-requires
+read_on-heard-requires c =
+    let x = c.args in
+    let g = staged_going x.image.now x.slot _ _ _ c.begin-stage.ensures c.in-Going.is in
+    (open_opened x.image.now x.slot _ g.0, g.1)
+
+pub returns-in-Closed : goal.returns-in-Closed
+returns-in-Closed c =
+    let x = c.args in
+    answer_closed (mode_of x.salvage) x.image.now x.slot x.place x.out.now _ (staged_closed x.image.now x.slot _ _ c.begin-stage.ensures c.in-Closed.is)
+
+pub returns-in-Going : goal.returns-in-Going
+returns-in-Going c =
+    let x = c.args in
+    let g = staged_going x.image.now x.slot _ _ _ c.begin-stage.ensures c.in-Going.is in
+    let h = c.read_on-heard.ensures in
+    answer_going (mode_of x.salvage) x.image.now x.slot x.place x.out.now _ _ _ g.0 (h.0, h.1)
