@@ -23,7 +23,7 @@ use Rattle.promises.specs.Ground.Basics.{never}
 use Rattle.promises.specs.Images.AddressLaws.{parts, legal_of}
 use Rattle.promises.specs.Volumes.VolumeNumbers.{Numbers, numbers_of_lem}
 use Rattle.promises.specs.Making.Drafts.{proposal_right, proposed_fields}
-use Rattle.promises.specs.Making.Creations.{Creatable, creatable, creation_is}
+use Rattle.promises.proofs.Making.Creations.{Creatable, creatable, creation_is}
 use Rattle.layout.specs.Room.{Room}
 use Rattle.volume.proofs.NumberLaws.{slotted_of}
 use Rattle.finding.specs.Slot.{slot_named}

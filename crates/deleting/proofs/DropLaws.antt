@@ -19,7 +19,7 @@ use Rattle.standard.specs.declared.Counted.{Counted}
 use Rattle.standard.specs.declared.Counted.TheVariants.{Uncounted, Count}
 use Rattle.standard.specs.declared.Judged.TheVariants.{Refused, Volume}
 use Rattle.promises.specs.Volumes.AcceptedLaws.{has_slot}
-use Rattle.promises.specs.Making.Deletions.{deletable, deletion_is}
+use Rattle.promises.proofs.Making.Deletions.{deletable, deletion_is}
 use Rattle.finding.specs.Slot.{known_file}
 use Rattle.finding.proofs.AskLaws.{known_first}
 

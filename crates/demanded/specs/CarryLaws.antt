@@ -38,10 +38,10 @@ use Rattle.promises.specs.Extents.ExtentAddresses.{Rising, Between, rising_every
 use Rattle.promises.specs.Extents.ExtentWhole.{extent_has}
 use Rattle.promises.specs.Writing.Laying.{pack_some, pack_none}
 use Rattle.promises.specs.Writing.DataEnds.{later_at}
-use Rattle.promises.specs.Writing.WriteEnds.{end_of_some, end_of_all, record_there}
+use Rattle.promises.proofs.Writing.WriteEnds.{end_of_some, end_of_all, record_there}
 use Rattle.promises.specs.Reading.Following.{Heard, told, onward, following, heard_in}
 use Rattle.promises.specs.Refusals.Refusing.{reply_on}
-use Rattle.promises.specs.Demands.{reading_gives}
+use Rattle.promises.proofs.Demands.{reading_gives}
 
 -- one of a list stands somewhere in it
 place_of : (xs : List Address) (a : Address) → Memᴰ a xs → (d : Address) → (i : ℕ) × (i < length xs) × (get_or xs i d ≡ a)

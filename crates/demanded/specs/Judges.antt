@@ -38,13 +38,13 @@ use Rattle.promises.specs.Volumes.VolumeNumbers.{Numbers, numbers_of_lem, image_
 use Rattle.promises.specs.Volumes.Judging.{accepted as stages-of}
 use Rattle.promises.specs.Volumes.AcceptedLaws.{image_length_lem}
 use Rattle.promises.specs.Volumes.VolumePromises.{RecordInRange}
-use Rattle.promises.specs.Extents.DefectsApart.{OnDefect}
+use Rattle.promises.proofs.Extents.DefectsApart.{OnDefect}
 use Rattle.promises.specs.Volumes.FindingLaws.{find_slot as found-in-slot, slot_handed_out}
 use Rattle.promises.specs.Volumes.FreeLaws.{extents_below}
 use Rattle.promises.specs.Images.Sectors.{AgreeOn, sector_of}
-use Rattle.promises.specs.Demands.{extents_in_range, extents_off_defects, sharing_no_record, extent_is, finding_gives, label_given, free_gives, locality, write_counts}
-use Rattle.promises.specs.Requested.{version_digit, version_refused, named_by_3, skip_is_walk, skip_is_any_walk, accepted_pair, stands_where_walked, number_skips}
-use Rattle.promises.specs.Instances.{demo, demo_volume, demo_bodies, demo_lengths, demo_old, demo_accepted, demo_version}
+use Rattle.promises.proofs.Demands.{extents_in_range, extents_off_defects, sharing_no_record, extent_is, finding_gives, label_given, free_gives, locality, write_counts}
+use Rattle.promises.proofs.Requested.{version_digit, version_refused, named_by_3, skip_is_walk, skip_is_any_walk, accepted_pair, stands_where_walked, number_skips}
+use Rattle.promises.proofs.Instances.{demo, demo_volume, demo_bodies, demo_lengths, demo_old, demo_accepted, demo_version}
 use Rattle.demanded.specs.Calls.{Response, Meets, ByName, InSlot, named, in_slot, judge, find, find_slot, label_named_row, label_in_slot_row, free, count, contract, galz_judge, exported}
 
 -- ======== JUDGING

@@ -24,20 +24,20 @@ use Rattle.standard.specs.declared.Answer.TheVariants.{Unanswered, Gap, End, Rec
 use Rattle.standard.specs.declared.Checked.TheVariants.{Passed}
 use Rattle.standard.specs.declared.Judged.TheVariants.{Volume}
 use Rattle.promises.specs.Ground.Basics.{never, either}
-use Rattle.promises.specs.Refusals.ReadingRefused.{LostIn, FirstLost}
+use Rattle.promises.proofs.Refusals.ReadingRefused.{LostIn, FirstLost}
 use Rattle.promises.specs.Reading.ReadingLaws.{body_of}
 use Rattle.promises.specs.Reading.Following.{Heard, told, gap_at, done, refused, onward, following, heard_in}
-use Rattle.promises.specs.Reading.AnyPlace.{listed_from}
+use Rattle.promises.proofs.Reading.AnyPlace.{listed_from}
 use Rattle.promises.specs.Images.Sectors.{AgreeOn, sector_of}
-use Rattle.promises.specs.Extents.DefectsApart.{SameOffDefects}
+use Rattle.promises.proofs.Extents.DefectsApart.{SameOffDefects}
 use Rattle.promises.specs.Salvage.Failing.{Failed, Spares, OfBlocks, ReadsWhole, gone, expected}
-use Rattle.promises.specs.Reading.WholeLaws.{opens_whole}
-use Rattle.promises.specs.Salvage.Failable.{failed_at, failed_in, among}
-use Rattle.promises.specs.Salvage.PlainFailed.{FirstGone, NoneGone, first_or_none, cut_at}
-use Rattle.promises.specs.Reading.Runs.{Stands}
-use Rattle.promises.specs.Reading.GoingOn.{Finished}
-use Rattle.promises.specs.Demands.{gap_stays, end_stays, record_stays, reading_gives, reading_gives_from, reading_past_defects, reading_goes_on, record_leads, gap_leads, end_leads, salvage_gives, plain_gives, blocks_may_fail, never_joined, joined_rightly, locality}
-use Rattle.promises.specs.Instances.{image, output, geometry, bodies, computed, fails_9, of_blocks, skipping, skipping_heard}
+use Rattle.promises.proofs.Reading.WholeLaws.{opens_whole}
+use Rattle.promises.proofs.Salvage.Failable.{failed_at, failed_in, among}
+use Rattle.promises.proofs.Salvage.PlainFailed.{FirstGone, NoneGone, first_or_none, cut_at}
+use Rattle.promises.proofs.Reading.Runs.{Stands}
+use Rattle.promises.proofs.Reading.GoingOn.{Finished}
+use Rattle.promises.proofs.Demands.{gap_stays, end_stays, record_stays, reading_gives, reading_gives_from, reading_past_defects, reading_goes_on, record_leads, gap_leads, end_leads, salvage_gives, plain_gives, blocks_may_fail, never_joined, joined_rightly, locality}
+use Rattle.promises.proofs.Instances.{image, output, geometry, bodies, computed, fails_9, of_blocks, skipping, skipping_heard}
 use Rattle.demanded.specs.Calls.{Response, Meets, Asked, ask, read, contract}
 use Rattle.demanded.specs.Called.{defined, answered}
 

@@ -9,9 +9,9 @@ use Rattle.std.proofs.Common.{sym, ◌∙◌, arith}
 use Rattle.std.proofs.Math.Path.{ap, subst}
 use Rattle.text.specs.Laid.{laid}
 use Rattle.standard.specs.Writing.{splice}
-use Rattle.promises.specs.Images.Alike.{Loose, NoneJudged, Only, failed_bodies, EqualBut}
-use Rattle.promises.specs.Demands.{unseen_judged, unseen_found, unseen_counted, unseen_listed, unseen_read, unseen_written, unseen_created, unseen_deleted, unjudged_byte}
-use Rattle.promises.specs.Requested.{reserve_not_judged}
+use Rattle.promises.proofs.Images.Alike.{Loose, NoneJudged, Only, failed_bodies, EqualBut}
+use Rattle.promises.proofs.Demands.{unseen_judged, unseen_found, unseen_counted, unseen_listed, unseen_read, unseen_written, unseen_created, unseen_deleted, unjudged_byte}
+use Rattle.promises.proofs.Requested.{reserve_not_judged}
 use Rattle.demanded.specs.Calls.{Response, Meets, named, in_slot, into, ask, give, want, Call, judge, find, find_slot, label_named_row, label_in_slot_row, free, count, list, write, create, delete, read, contract, Export, call_of, number_of, exported}
 use Rattle.demanded.specs.Called.{image_in}
 

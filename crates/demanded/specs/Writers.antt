@@ -36,21 +36,21 @@ use Rattle.standard.specs.declared.Written.TheVariants.{Unwritten, Blocks}
 use Rattle.promises.specs.Ground.Basics.{never, either, eq_or_not}
 use Rattle.promises.specs.Images.AddressLaws.{parts, step_rank}
 use Rattle.promises.specs.Volumes.AcceptedLaws.{InRange, has_slot}
-use Rattle.promises.specs.Writing.ReadBack.{enough_records}
-use Rattle.promises.specs.Writing.AcceptedWrite.{passing, label_range, after_is}
-use Rattle.promises.specs.Writing.WrittenLabel.{records_some, new_end}
-use Rattle.promises.specs.Writing.WriteEnds.{end_of_none, end_of_some, end_of_all, end_behind, written_sector}
-use Rattle.promises.specs.Writing.WritingPromises.{joined, answers, labels_stay, needing_again}
-use Rattle.promises.specs.Writing.WrittenHeard.{RoomFor, told_in, written_heard_in, written_whole}
+use Rattle.promises.proofs.Writing.ReadBack.{enough_records}
+use Rattle.promises.proofs.Writing.AcceptedWrite.{passing, label_range, after_is}
+use Rattle.promises.proofs.Writing.WrittenLabel.{records_some, new_end}
+use Rattle.promises.proofs.Writing.WriteEnds.{end_of_none, end_of_some, end_of_all, end_behind, written_sector}
+use Rattle.promises.proofs.Writing.WritingPromises.{joined, answers, labels_stay, needing_again}
+use Rattle.promises.proofs.Writing.WrittenHeard.{RoomFor, told_in, written_heard_in, written_whole}
 use Rattle.promises.specs.Images.Sectors.{sector_at}
-use Rattle.promises.specs.Images.ByteSectors.{InSector, MayChange}
-use Rattle.promises.specs.Extents.DefectsApart.{OnDefect}
+use Rattle.promises.proofs.Images.ByteSectors.{InSector, MayChange}
+use Rattle.promises.proofs.Extents.DefectsApart.{OnDefect}
 use Rattle.promises.specs.Refusals.Refusing.{Exactly, order_first, first_order, accepted_write}
 use Rattle.promises.specs.Reading.Following.{told, done, following}
 use Rattle.promises.specs.Salvage.Failing.{Failed, Spares, OfBlocks, ReadsWhole}
-use Rattle.promises.specs.Demands.{write_list_lem, write_counts, write_reads_back, write_changes_no_more, writing_past_defects, write_sets, write_stays_accepted, others_stay, finding_stays}
-use Rattle.promises.specs.Requested.{stands_where_walked}
-use Rattle.promises.specs.Instances.{demo, demo_volume, demo_bodies, demo_lengths, demo_accepted, demo_heard}
+use Rattle.promises.proofs.Demands.{write_list_lem, write_counts, write_reads_back, write_changes_no_more, writing_past_defects, write_sets, write_stays_accepted, others_stay, finding_stays}
+use Rattle.promises.proofs.Requested.{stands_where_walked}
+use Rattle.promises.proofs.Instances.{demo, demo_volume, demo_bodies, demo_lengths, demo_accepted, demo_heard}
 use Rattle.demanded.specs.Calls.{Response, Meets, ByName, InSlot, Given, named, in_slot, ask, give, judge, find, find_slot, free, count, read, write, contract}
 use Rattle.demanded.specs.Called.{alike, answered, refuses_exactly}
 use Rattle.demanded.specs.Readers.{Reader, Reads, as_defined, followed, followed_is, SalvagedAs, salvager_gives, salvager_gives_demanded}

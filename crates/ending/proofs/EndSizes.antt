@@ -11,7 +11,7 @@ use Rattle.standard.specs.declared.Geometry.{Geometry}
 use Rattle.standard.specs.declared.Checked.TheVariants.{Passed}
 use Rattle.standard.specs.declared.Judged.TheVariants.{Volume}
 use Rattle.promises.specs.Volumes.VolumeNumbers.{numbers_of_lem}
-use Rattle.promises.specs.Writing.WrittenLabel.{ends}
+use Rattle.promises.proofs.Writing.WrittenLabel.{ends}
 
 -- an address, or the one past the last: at most cylinder L+1 of a volume whose numbers are small
 pub end_small : (image : List ℕ) (g : Geometry) (slot : ℕ) (bodies lengths : List ℕ) → judged image ≡ Volume g → write_refusal g image slot bodies lengths ≡ Passed

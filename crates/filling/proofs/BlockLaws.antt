@@ -17,7 +17,7 @@ use Rattle.promises.specs.Ground.Basics.{either, lt_or_le}
 use Rattle.promises.specs.Ground.Lists.{Every, every_take, every_drop}
 use Rattle.promises.specs.Ground.Splices.{filled_length}
 use Rattle.promises.specs.Writing.StoreLaws.{store_splice}
-use Rattle.promises.specs.Writing.Storing.{store_length, block_length_lem}
+use Rattle.promises.proofs.Writing.Storing.{store_length, block_length_lem}
 use Rattle.promises.specs.Images.Tiling.{address_room}
 use Rattle.layout.specs.Room.{Sized}
 use Rattle.filling.specs.Poured.{poured, flat}

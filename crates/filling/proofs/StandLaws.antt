@@ -19,7 +19,7 @@ use Rattle.promises.specs.Ground.Splices.{Outside, splice_length, splice_outside
 use Rattle.promises.specs.Images.AddressLaws.{step_rank}
 use Rattle.promises.specs.Images.Tiling.{sector_outside, address_size, address_room, addresses_apart}
 use Rattle.promises.specs.Images.SectorLaws.{sector_from_bytes}
-use Rattle.promises.specs.Extents.ExtentReads.{SameSector, SameDefect, same_defect, same_good}
+use Rattle.promises.proofs.Extents.ExtentReads.{SameSector, SameDefect, same_defect, same_good}
 use Rattle.extents.specs.Cursors.{legal_on, legal_at, standing_from, standing}
 use Rattle.extents.specs.declared.Cursor.{Cursor}
 use Rattle.extents.proofs.CursorLaws.{first_legal}

@@ -15,9 +15,9 @@ use Rattle.standard.specs.Reading.{read_answer}
 use Rattle.standard.specs.declared.Place.{Place}
 use Rattle.standard.specs.declared.Answer.{Answer}
 use Rattle.standard.specs.declared.Answer.TheVariants.{Unanswered, Record, Gap, End}
-use Rattle.promises.specs.Bounds.PackedLaws.{find_room}
-use Rattle.promises.specs.Bounds.MadeSizes.{create_low}
-use Rattle.promises.specs.Bounds.ReadingSizes.{AnswerSmall, reading_small}
+use Rattle.promises.proofs.Bounds.PackedLaws.{find_room}
+use Rattle.promises.proofs.Bounds.MadeSizes.{create_low}
+use Rattle.promises.proofs.Bounds.ReadingSizes.{AnswerSmall, reading_small}
 use Rattle.packing.specs.Room.{FoundFits, AnswerFits, CreatedFits}
 
 pub found_fits : (image name : List ℕ) → FoundFits (found image name)

@@ -22,9 +22,9 @@ use Rattle.labels.specs.declared.Form.{Form}
 use Rattle.labels.specs.declared.Form.TheVariants.{Fixed, Variable, Spanned}
 use Rattle.promises.specs.Ground.Lists.{Every}
 use Rattle.promises.specs.Writing.Laying.{place_if, pack_some, pack_none}
-use Rattle.promises.specs.Writing.NeededLaws.{least_for, least_for_lem, EachFits, Tiled}
+use Rattle.promises.proofs.Writing.NeededLaws.{least_for, least_for_lem, EachFits, Tiled}
 use Rattle.promises.specs.Writing.StoreLaws.{total_drop}
-use Rattle.promises.specs.Writing.WritingPromises.{parted_lengths, parted_joined}
+use Rattle.promises.proofs.Writing.WritingPromises.{parted_lengths, parted_joined}
 use Rattle.standard.specs.declared.Address.{Address}
 use Rattle.extents.specs.Cursors.{standing}
 use Rattle.extents.specs.declared.Cursor.{Cursor}

@@ -33,7 +33,7 @@ use Rattle.promises.specs.Volumes.LabelRules.{Rules, Shape, is_f, is_v, is_s, sh
 use Rattle.promises.specs.Volumes.VolumeNumbers.{numbers_of_lem}
 use Rattle.promises.specs.Extents.ExtentAddresses.{good_legal}
 use Rattle.promises.specs.Extents.FullBlocks.{count_held, open_label, open_rules, block_low, records_one, records_few, content_fits, SoundFile, sound_file, block_size}
-use Rattle.promises.specs.Salvage.SalvageImage.{file_count}
+use Rattle.promises.proofs.Salvage.SalvageImage.{file_count}
 use Rattle.promises.specs.Bounds.Sizes.{addresses_few, blocks_few}
 use Rattle.fields.proofs.LoopLaws.{digit_most}
 use Rattle.labels.specs.Forms.{form_in, format_for, format_back}

@@ -5,5 +5,3 @@ pub mod Tiling
 pub mod Sectors
 pub mod SectorLaws
 pub mod Unjudged
-pub mod Alike
-pub mod ByteSectors

@@ -6,8 +6,3 @@ pub mod StepLaw
 pub mod PlaceLaws
 pub mod ListedLaws
 pub mod Following
-pub mod FollowingLaws
-pub mod WholeLaws
-pub mod AnyPlace
-pub mod GoingOn
-pub mod Runs

@@ -1,4 +1,3 @@
 -- Refusals: each given exactly when its list says so, and what its place names; those of a reading.
 pub mod Refusing
 pub mod PlacesNamed
-pub mod ReadingRefused

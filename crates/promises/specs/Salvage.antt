@@ -3,8 +3,3 @@ pub mod SalvageLaws
 pub mod SalvageViews
 pub mod NoneLost
 pub mod Failing
-pub mod FailedLaws
-pub mod Failable
-pub mod SalvageImage
-pub mod PlainFailed
-pub mod SalvagedHeard

@@ -12,7 +12,7 @@ use Rattle.standard.specs.Files.{any_failed}
 use Rattle.standard.specs.Records.{State, fresh, marked, within, Met, took, gapped, ended, refused, at_end}
 use Rattle.standard.specs.Reading.{laid_over}
 use Rattle.standard.specs.declared.Place.{Place}
-use Rattle.promises.specs.Salvage.SalvageImage.{file_count}
+use Rattle.promises.proofs.Salvage.SalvageImage.{file_count}
 use Rattle.opening.specs.Opened.{label_in, file_of, Opened}
 use Rattle.opening.specs.declared.FileNumbers.{FileNumbers}
 use Rattle.opening.proofs.OpenedLaws.{facts}

@@ -25,7 +25,7 @@ use Rattle.standard.specs.declared.Judged.TheVariants.{Refused, Volume}
 use Rattle.standard.specs.declared.Answer.{Answer}
 use Rattle.standard.specs.declared.Answer.TheVariants.{Unanswered, Record as RecordOf}
 use Rattle.promises.specs.Ground.Basics.{by_test, and_l, and_r, never}
-use Rattle.promises.specs.Salvage.SalvageImage.{file_count}
+use Rattle.promises.proofs.Salvage.SalvageImage.{file_count}
 use Rattle.labels.specs.Forms.{format_for}
 use Rattle.labels.specs.declared.Form.{Form}
 use Rattle.labels.specs.declared.Form.TheVariants.{Fixed, Variable, Spanned}

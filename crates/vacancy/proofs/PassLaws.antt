@@ -21,7 +21,7 @@ use Rattle.promises.specs.Ground.Basics.{either, lt_or_le, by_test}
 use Rattle.promises.specs.Volumes.AcceptedLaws.{has_slot, label_in_range}
 use Rattle.promises.specs.Volumes.FreeLaws.{has_label_lem}
 use Rattle.promises.specs.Making.RunsFree.{Searched, room_skip, room_here, deleted_next, deleted_end}
-use Rattle.promises.specs.Making.SlotSplices.{deleted_unless}
+use Rattle.promises.proofs.Making.SlotSplices.{deleted_unless}
 use Rattle.index.specs.Whole.{Slotted}
 use Rattle.index.specs.Extents.{start_in, end_in, Known}
 use Rattle.index.proofs.SlotLaws.{slot_passed}

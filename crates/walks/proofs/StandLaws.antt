@@ -15,7 +15,7 @@ use Rattle.standard.specs.Records.{within, deliver, carry, breach, over_in, over
 use Rattle.standard.specs.Places.{next_block, after_gap}
 use Rattle.standard.specs.declared.Place.{Place}
 use Rattle.promises.specs.Ground.Basics.{cond_elim, by_test, or_l, or_r, or_rest}
-use Rattle.promises.specs.Reading.GoingOn.{next_inside}
+use Rattle.promises.proofs.Reading.GoingOn.{next_inside}
 use Rattle.labels.specs.Forms.{format_for}
 use Rattle.labels.specs.declared.Form.{Form}
 use Rattle.pieces.specs.Looks.{role_for, head_of}

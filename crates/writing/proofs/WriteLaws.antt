@@ -25,13 +25,13 @@ use Rattle.promises.specs.Ground.Basics.{never}
 use Rattle.promises.specs.Volumes.LabelRules.{Rules, block_fits}
 use Rattle.promises.specs.Ground.Lists.{Every}
 use Rattle.promises.specs.Volumes.AcceptedLaws.{image_length_lem}
-use Rattle.promises.specs.Writing.AcceptedWrite.{passing, outcome_is, label_range, stored, stored_whole}
+use Rattle.promises.proofs.Writing.AcceptedWrite.{passing, outcome_is, label_range, stored, stored_whole}
 use Rattle.promises.specs.Volumes.VolumeNumbers.{numbers_of_lem}
 use Rattle.promises.specs.Extents.FullBlocks.{records_few}
 use Rattle.promises.specs.Writing.PackedRecords.{Sized as SizedBlocks}
-use Rattle.promises.specs.Writing.StoredBlocks.{sizes_fitting}
-use Rattle.promises.specs.Writing.WrittenLabel.{old_rules, packing_right, records_some}
-use Rattle.promises.specs.Writing.NeededLaws.{EachFits, each_fits, Tiled, tiled}
+use Rattle.promises.proofs.Writing.StoredBlocks.{sizes_fitting}
+use Rattle.promises.proofs.Writing.WrittenLabel.{old_rules, packing_right, records_some}
+use Rattle.promises.proofs.Writing.NeededLaws.{EachFits, each_fits, Tiled, tiled}
 use Rattle.promises.specs.Extents.ExtentAddresses.{good_legal}
 use Rattle.labels.specs.declared.Form.TheVariants.{Fixed}
 use Rattle.labels.specs.Forms.{form_in, format_for, format_back}

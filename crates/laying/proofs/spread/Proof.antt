@@ -7,7 +7,7 @@ use mathlib.Core.List.{List}
 use lib.ListN.{length}
 use native.Mathlib.Omega.{arith}
 use Rattle.standard.specs.Packing.{Laid}
-use Rattle.promises.specs.Writing.NeededLaws.{least_for, least_most, six_left}
+use Rattle.promises.proofs.Writing.NeededLaws.{least_for, least_most, six_left}
 use Rattle.filling.specs.Poured.{Placed}
 use Rattle.laying.proofs.DeskLaws.{Left, segment_on, segment_end}
 use Rattle.laying.proofs.spread.Statement.{statement}

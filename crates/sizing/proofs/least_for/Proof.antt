@@ -2,7 +2,7 @@
 -- Assumes nothing.
 use mathlib.Core.Path.{sym}
 use native.Mathlib.Omega.{arith}
-use Rattle.promises.specs.Writing.NeededLaws.{least_pos}
+use Rattle.promises.proofs.Writing.NeededLaws.{least_pos}
 use Rattle.sizing.proofs.LevelLaws.{least_none}
 use Rattle.sizing.proofs.least_for.Statement.{statement}
 use Rattle.sizing.proofs.least_for.Tie as tie

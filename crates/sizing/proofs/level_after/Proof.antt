@@ -6,7 +6,7 @@ use lib.ListN.{length, drop}
 use native.Mathlib.Omega.{arith}
 use Rattle.standard.specs.Writing.{total}
 use Rattle.promises.specs.Writing.StoreLaws.{total_drop}
-use Rattle.promises.specs.Writing.NeededLaws.{level_from, FitsIn}
+use Rattle.promises.proofs.Writing.NeededLaws.{level_from, FitsIn}
 use Rattle.labels.specs.Forms.{format_for}
 use Rattle.sizing.proofs.LevelLaws.{level_to, level_none, fits_at, stands_as}
 use borrow.Author.Rules.{rules}

@@ -4,7 +4,7 @@ use Prim.Native.Nat.{ℕ, suc, ◌+◌, ◌-◌, ◌<◌, ◌≤◌}
 use mathlib.Core.Path.{◌≡◌, refl, sym, ap, ◌∙◌}
 use native.Mathlib.Omega.{arith}
 use native.Mathlib.Numerals.{add-one}
-use Rattle.promises.specs.Writing.NeededLaws.{spread_to, least_for, spread_ends, spread_goes_on}
+use Rattle.promises.proofs.Writing.NeededLaws.{spread_to, least_for, spread_ends, spread_goes_on}
 use Rattle.sizing.proofs.LevelLaws.{takes_one, stands_as}
 use borrow.Author.Rules.{rules}
 use Rattle.sizing.proofs.spread.Statement.{statement}

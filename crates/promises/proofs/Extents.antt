@@ -1,0 +1,3 @@
+-- Theorems of specs/Extents, from the bottom up.
+pub mod ExtentReads
+pub mod DefectsApart

@@ -1,0 +1,2 @@
+-- Theorems of specs/Refusals, from the bottom up.
+pub mod ReadingRefused

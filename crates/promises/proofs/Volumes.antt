@@ -1,0 +1,2 @@
+-- Theorems of specs/Volumes, from the bottom up.
+pub mod SkipWalk
