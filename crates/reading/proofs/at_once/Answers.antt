@@ -18,13 +18,13 @@ returns-then-not-fits c =
     let x = c.args in
     let p = c.requires in
     answers_no x.image.now x.f p.0 x.out.now (met_with (grown x.image.now x.f x.w [] (length_in x.x)) x.x) x.x _
-    (sym (done_measured x.image.now x.f false x.w x.x [] (sym p.2) p.3)) (sym c.fits2.ensures ∙ not-true _ c.if-not-fits.true-raw) c.answered.ensures
+    (sym (done_measured x.image.now x.f false x.w x.x [] (sym p.2) p.3)) (sym c.fits.ensures ∙ not-true _ c.if-not-fits.true-raw) c.answered.ensures
 
 pub put-requires : goal.put-requires
 put-requires c =
     let x = c.args in
     let p = c.requires in
-    let h = sym c.fits2.ensures ∙ not-false _ c.if-not-fits.false-raw in
+    let h = sym c.fits.ensures ∙ not-false _ c.if-not-fits.false-raw in
     let r =
     subst (λ (n : ℕ). (Reached x.image.now x.f x.w n) × (n ≤ length x.out.now)) (sym c.length_in.ensures) (once_room x.image.now x.f x.w p.2 x.x (length x.out.now) p.3 h) in
     (p.0, p.1, r.0, r.1)
@@ -33,7 +33,7 @@ pub returns : goal.returns
 returns c =
     let x = c.args in
     let p = c.requires in
-    let h = sym c.fits2.ensures ∙ not-false _ c.if-not-fits.false-raw in
+    let h = sym c.fits.ensures ∙ not-false _ c.if-not-fits.false-raw in
     let l =
     once_laid x.image.now x.f x.w p.2 x.x x.out.now _ p.3 h
     (c.put.ensures
