@@ -1,4 +1,1 @@
-pub mod Asking
 pub mod CarriesLaws
-pub mod Made
-pub mod Passing

@@ -3,6 +3,8 @@
 // thin: each makes it, takes it apart or passes it on.
 // `read_at` and `salvage_at` take any image, slot and place. What requires `Carries` is for callers in these crates who hold what `open`, `carry` or an answer
 // gave them: numbers of another image could lead a reader out of this one.
+#![tactic(auto)]
+
 ghost use Rattle.std.specs.Prelude.{◌≡◌};
 ghost use Rattle.standard.specs.Records.{plain, salvage};
 ghost use Rattle.standard.specs.Reading.{read_answer, output_after};
