@@ -1,5 +1,7 @@
 // A list of record lengths, measured before anything is written: refusals 25 and 26, the number of blocks that the list needs, and the bytes that its last block
 // leaves unused. Everything here is inner; it looks at the lengths alone.
+#![tactic(auto)]
+
 ghost use Rattle.std.specs.Prelude.{◌≡◌, suc, ◌+◌, ◌<◌, ◌≤◌, eqb, length, get_or};
 ghost use Rattle.standard.specs.Writing.{total, wrong_in};
 ghost use Rattle.promises.proofs.Writing.NeededLaws.{placed_whole, spread_to, least_for, placed_spanned, placed, level_from, FitsIn, EachFits};
