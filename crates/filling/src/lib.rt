@@ -1,6 +1,8 @@
 // The bodies of good records, filled in turn: "Written records get the valid mark; the writer hands each physical record's body on to be filled." A pen stands at
 // a byte of a record; what is laid from it goes on over the good records behind. Everything here is inner: the layers above call it on the extent of an accepted
 // volume.
+#![tactic(auto)]
+
 ghost use Rattle.std.specs.Prelude.{◌≡◌, true, cond, leb, List, ◌∷◌, ℕ, ◌+◌, ◌-◌, ◌/◌, ◌<◌, ◌≤◌, length, take, drop};
 ghost use Rattle.standard.specs.Characters.{digit_of, padded};
 ghost use Rattle.standard.specs.Layout.{kind_offset};
