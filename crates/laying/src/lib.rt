@@ -1,6 +1,8 @@
 // The records of a list laid into blocks: "F: B/R to a block. V unblocked: one to a block; blocked: into the current block if it fits, else the next. S: a segment
 // starts where 6 bytes are left (5 for an empty record), takes what fits, and goes on in the next block. Content left, and physical records' ends, are filled with
 // 00." Everything here is inner: the writer calls it when nothing can be refused any more.
+#![tactic(auto)]
+
 ghost use Rattle.std.specs.Prelude.{◌≡◌, true, false, cond, ◌++◌, ℕ, suc, ◌+◌, ◌*◌, ◌<◌, ◌≤◌, length, take, drop};
 ghost use Rattle.standard.specs.Packing.{fill, role_byte, segment, segment_role, spread, pack_in};
 ghost use Rattle.standard.specs.Writing.{total, parted};
