@@ -1,5 +1,7 @@
 // The data end behind the blocks written: "start for 0 blocks; the first good record of the next block if a whole one is left; else the step past the extent's
 // end". Everything here is inner.
+#![tactic(auto)]
+
 ghost use Rattle.std.specs.Prelude.{◌≡◌, true, ◌/◌, ◌<◌, length};
 ghost use Rattle.standard.specs.Files.{addresses_from};
 ghost use Rattle.standard.specs.Writing.{next_data_end};
