@@ -1,6 +1,8 @@
 // Text into a lent buffer. Each function puts its text from an index on, as far as there is room, and answers the index behind it: so texts are put one after
 // another with no test between them, and the last answer is the length of the whole. All serve the layers above: a text begins at an
 // index below 2^32 (a byte of it may stand somewhat behind that).
+#![tactic(auto)]
+
 ghost use Rattle.std.specs.Prelude.{◌≡◌, [], ◌∷◌, ◌++◌, ◌+◌, ◌<◌, ◌≤◌, length};
 ghost use Rattle.standard.specs.Characters.{bytes, digit_of, padded, shown};
 ghost use Rattle.standard.specs.Addresses.{five_bytes};
