@@ -1,5 +1,7 @@
 // What is stored to a slot's sector, in the image itself: "Then U (spaces for 0) and the data end are set", two fields of a label; and (request 2026-01) a mark
 // with bytes from the label's first on. Everything here is inner.
+#![tactic(auto)]
+
 ghost use Rattle.std.specs.Prelude.{◌≡◌, ◌+◌, ◌<◌, ◌≤◌, length};
 ghost use Rattle.standard.specs.Addresses.{five_bytes};
 ghost use Rattle.standard.specs.Writing.{splice, unused_field, set_label};
