@@ -1,4 +1,6 @@
 // The label to be made (request 2026-01), and which rule it would break. Everything here is inner.
+#![tactic(auto)]
+
 ghost use Rattle.std.specs.Prelude.{◌≡◌, ◌+◌, ◌-◌, ◌<◌, ◌≤◌, length, take, drop};
 ghost use Rattle.standard.specs.Writing.{splice};
 ghost use Rattle.standard.specs.Creating.{proposed, proposal_fault};
