@@ -1,5 +1,7 @@
 // Writing a file: "Writing takes all record bodies joined, and their lengths." First everything that can be refused is asked, of the image as it is; then the plan
 // is carried out: the blocks over the good records of the extent, and the two fields of the label.
+#![tactic(auto)]
+
 ghost use Rattle.std.specs.Prelude.{◌≡◌, true, ◌+◌, ◌<◌, length};
 ghost use Rattle.standard.specs.Refusals.{or_else};
 ghost use Rattle.standard.specs.Layout.{label_at};
