@@ -1,6 +1,8 @@
 // Creating a file (request 2026-01): "Creating takes the 29 bytes of label fields [..] and a number n of physical records, and uses the lowest free run of n
 // consecutive data addresses and the lowest deleted slot." First everything that can be refused is asked, of the image as it is; then the plan is carried out: one
 // store to the slot's sector.
+#![tactic(auto)]
+
 ghost use Rattle.std.specs.Prelude.{◌≡◌, ◌≤◌};
 ghost use Rattle.standard.specs.Judgement.{judged};
 ghost use Rattle.standard.specs.Creating.{created_start, image_created, created, image_after_create};
