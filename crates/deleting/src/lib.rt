@@ -1,5 +1,7 @@
 // Deleting a file (request 2026-01): "Deleting gives the slot the incorrect mark and first byte `D`, nothing else." First everything that can be refused is asked;
 // then one store to the slot's sector.
+#![tactic(auto)]
+
 ghost use Rattle.std.specs.Prelude.{◌≡◌};
 ghost use Rattle.standard.specs.Judgement.{judged};
 ghost use Rattle.standard.specs.Creating.{delete_refusal, image_without, deleted, image_after_delete};
