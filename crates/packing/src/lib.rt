@@ -1,5 +1,7 @@
 // An answer as the one returned 64-bit number of the C boundary. For each case of an answer, the definitions of specs/Packed in crates/standard say its
 // number; the functions here compute it, and no sum of theirs wraps. Inner: the exports call them.
+#![tactic(auto)]
+
 ghost use Rattle.std.specs.Prelude.{◌≡◌, cond, ◌-◌, ◌*◌, ◌<◌, ◌≤◌, ◌^◌, ltb};
 ghost use Rattle.standard.specs.Packed.{packed_refusal, packed_judged, packed_found, packed_counted, packed_place, packed_answer, packed_written, packed_created};
 ghost use Rattle.packing.specs.Room.{FoundFits, PlaceFits, AnswerFits, CreatedFits};
