@@ -1,4 +1,6 @@
 // The lines of the listing, put one after another into a lent buffer.
+#![tactic(auto)]
+
 ghost use Rattle.std.specs.Prelude.{◌≡◌, true, [], ◌∷◌, ◌++◌, ◌+◌, ◌<◌, ◌≤◌, length};
 ghost use Rattle.standard.specs.Characters.{shown};
 ghost use Rattle.standard.specs.Labels.{level, format_of};
