@@ -1,6 +1,8 @@
-// The C boundary: "The module is C and calls the library with numbers and byte slices". Each export answers with the one number that specs/Packed in
+// The C boundary: "The module is C and calls the library with numbers and byte slices". Each call answers with the one number that specs/Packed in
 // crates/standard says of the definition's answer, for any bytes and any numbers; promises' PackedLaws shows that the caller reads the whole answer back
-// from it. include/galzeranta.h is the C side.
+// from it. galzeranta_c exports them, each under its name here; include/galzeranta.h is the C side.
+#![tactic(auto)]
+
 ghost use Rattle.std.specs.Prelude.{◌≡◌};
 ghost use Rattle.standard.specs.Judgement.{judged};
 ghost use Rattle.standard.specs.Finding.{found};
@@ -16,32 +18,28 @@ ghost use Rattle.galzeranta.specs.Asked.{place_of};
 use standard::Place;
 
 // The judgement of a volume.
-#[unsafe(no_mangle)]
-pub extern "C" fn galz_judge(image: &[u8]) -> u64
+pub fn galz_judge(image: &[u8]) -> u64
     ensures { result ≡ packed_judged (judged image.now) }
 {
     packing::pack_judged(volume::judge(image))
 }
 
 // The file of a name: its slot, and where its label begins in the image.
-#[unsafe(no_mangle)]
-pub extern "C" fn galz_find(image: &[u8], name: &[u8]) -> u64
+pub fn galz_find(image: &[u8], name: &[u8]) -> u64
     ensures { result ≡ packed_found (found image.now name.now) }
 {
     packing::pack_found(finding::find(image, name))
 }
 
 // The number of blocks of the file in a slot.
-#[unsafe(no_mangle)]
-pub extern "C" fn galz_count(image: &[u8], slot: u64) -> u64
+pub fn galz_count(image: &[u8], slot: u64) -> u64
     ensures { result ≡ packed_counted (counted image.now slot) }
 {
     packing::pack_counted(files::count(image, slot))
 }
 
 // The free records.
-#[unsafe(no_mangle)]
-pub extern "C" fn galz_free(image: &[u8]) -> u64
+pub fn galz_free(image: &[u8]) -> u64
     ensures { result ≡ packed_counted (free_count image.now) }
 {
     packing::pack_counted(vacancy::free(image))
@@ -59,23 +57,14 @@ fn place_of(block: u64, offset: u64, mark: u64) -> Place
 }
 
 // Plain reading of a place of the file in a slot.
-#[unsafe(no_mangle)]
-pub extern "C" fn galz_read(
-    image: &[u8],
-    slot: u64,
-    block: u64,
-    offset: u64,
-    mark: u64,
-    out: &mut [u8],
-) -> u64
+pub fn galz_read(image: &[u8], slot: u64, block: u64, offset: u64, mark: u64, out: &mut [u8]) -> u64
     ensures { (result ≡ packed_answer (read_answer plain image.now slot (place_of block offset mark) out.old)) × (out.new ≡ output_after plain image.now slot (place_of block offset mark) out.old) }
 {
     packing::pack_answer(reading::read(image, slot, place_of(block, offset, mark), out))
 }
 
 // Salvage from a place of the file in a slot.
-#[unsafe(no_mangle)]
-pub extern "C" fn galz_salvage(
+pub fn galz_salvage(
     image: &[u8],
     slot: u64,
     block: u64,
@@ -89,24 +78,21 @@ pub extern "C" fn galz_salvage(
 }
 
 // Writing the file in a slot: all record bodies joined, and their lengths.
-#[unsafe(no_mangle)]
-pub extern "C" fn galz_write(image: &mut [u8], slot: u64, bodies: &[u8], lengths: &[u32]) -> u64
+pub fn galz_write(image: &mut [u8], slot: u64, bodies: &[u8], lengths: &[u32]) -> u64
     ensures { (result ≡ packed_written (written image.old slot bodies.now lengths.now)) × (image.new ≡ image_after image.old slot bodies.now lengths.now) }
 {
     packing::pack_written(writing::write(image, slot, bodies, lengths))
 }
 
 // Creating a file: the 29 bytes of label fields, and the number of its physical records.
-#[unsafe(no_mangle)]
-pub extern "C" fn galz_create(image: &mut [u8], fields: &[u8], n: u64) -> u64
+pub fn galz_create(image: &mut [u8], fields: &[u8], n: u64) -> u64
     ensures { (result ≡ packed_created (created image.old fields.now n)) × (image.new ≡ image_after_create image.old fields.now n) }
 {
     packing::pack_created(creating::create(image, fields, n))
 }
 
 // Deleting the file in a slot.
-#[unsafe(no_mangle)]
-pub extern "C" fn galz_delete(image: &mut [u8], slot: u64) -> u64
+pub fn galz_delete(image: &mut [u8], slot: u64) -> u64
     ensures { (result ≡ packed_counted (deleted image.old slot)) × (image.new ≡ image_after_delete image.old slot) }
 {
     packing::pack_counted(deleting::delete(image, slot))

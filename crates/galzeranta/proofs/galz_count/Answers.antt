@@ -1,0 +1,8 @@
+-- `galz_count` meets its contract: what `files::count` and `packing::pack_counted` ensure.
+-- Assumes nothing.
+use mathlib.Core.Path.{ap, ◌∙◌}
+use Rattle.standard.specs.Packed.{packed_counted}
+use Rattle.galzeranta.proofs.galz_count.Goals as goal
+
+pub returns : goal.returns
+returns c = c.pack_counted.ensures ∙ ap packed_counted c.count.ensures
