@@ -1,5 +1,7 @@
 // Only for measuring (compare/bench): a whole file read by an opened file, which judges the volume and opens the file once. The library's exports judge anew at
 // each call.
+#![tactic(auto)]
+
 ghost use Rattle.std.specs.Prelude.{◌≡◌, ◌≤◌, length};
 ghost use Rattle.standard.specs.Places.{start};
 ghost use Rattle.walks.specs.Walks.{mode_of};
