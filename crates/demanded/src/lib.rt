@@ -1,5 +1,7 @@
 // The code keeps the contracts of the table in specs/Calls. Each function here has a row of the table as its contract, and no body but the call of the
 // library's function: so what specs/ says of any function that meets a row is said of the library's.
+#![tactic(auto)]
+
 ghost use Rattle.std.specs.Prelude.{[]};
 ghost use Rattle.standard.specs.Records.{plain, salvage as salvaging};
 ghost use Rattle.galzeranta.specs.Asked.{place_of};
