@@ -1,6 +1,6 @@
 -- The bytes of the good records ahead of a cursor: a block's content is a part of them.
 -- Assumes nothing.
-use Rattle.std.specs.Prelude.{ℕ, ◌≤◌, ◌≡◌, List, length, get_or, drop}
+use Rattle.std.specs.Prelude.{ℕ, List, get_or, drop}
 use Rattle.standard.specs.Files.{bytes_of}
 use Rattle.standard.specs.declared.Geometry.{Geometry}
 use Rattle.extents.specs.Cursors.{standing}

@@ -1,7 +1,7 @@
 -- What is asked of a slot first: each way out of it, what a slot that passed it has, and the lists that begin with it.
 -- Assumes nothing.
 use Prim.Native.Nat.{ℕ}
-use mathlib.Core.Path.{◌≡◌, ap, ◌∙◌}
+use mathlib.Core.Path.{◌≡◌, ◌∙◌}
 use mathlib.Core.Bool.{true, false, not}
 use mathlib.Core.List.{List, [], ◌∷◌}
 use borrow.Author.Tests.{not-false, eq-eqb, ne_eqb}

@@ -1,6 +1,6 @@
 -- Refusal 12: names with different numbers differ, and only labels of known level have one.
 -- Assumes nothing.
-use Rattle.std.proofs.Common.{◌≡◌, ℕ, ◌+◌, ◌*◌, ◌%◌, ◌^◌, ◌<◌, Bool, true, false, ◌&&◌, List, length, get_or, drop, set, sym, refl, ap, ◌∙◌, arith, get_or-drop, get_or-take}
+use Rattle.std.proofs.Common.{◌≡◌, ℕ, ◌+◌, ◌%◌, ◌^◌, ◌<◌, Bool, true, false, ◌&&◌, List, length, get_or, drop, set, sym, refl, ap, ◌∙◌, arith, get_or-drop, get_or-take}
 use Rattle.standard.specs.Layout.{label_at}
 use Rattle.standard.specs.Characters.{same}
 use Rattle.standard.specs.Labels.{known_level, name_of}

@@ -7,14 +7,14 @@ use mathlib.Core.List.{List, [], ◌∷◌}
 use lib.Dec.{ltb, leb, eqb}
 use native.Mathlib.Omega.{arith}
 use borrow.Author.Tests.{le-leb, lt-leb, eq-eqb, ne_eqb}
-use Rattle.standard.specs.Characters.{at, between, field, every, is_digit, digits, digit_value, number, number_from, hex, spaces}
+use Rattle.standard.specs.Characters.{at, between, field, every, is_digit, digits, digit_value, number_from, spaces}
 use Rattle.standard.specs.Rules.{lowest_fault}
 use Rattle.standard.specs.Volume.{vol1_rules, volume_l, volume_i, volume_d, volume_k, volume_s}
 use Rattle.standard.specs.Defects.{is_cylinder, cylinder_in, ermap_rule7, ermap_rule11, ermap_rules, defect_in, defect1, defect2}
 use Rattle.standard.specs.declared.Geometry.{Geometry}
 use Rattle.numbers.specs.Numbers.{defected}
 use Rattle.fields.proofs.LoopLaws.{digit_most}
-use Rattle.promises.specs.Ground.Basics.{either, lt_or_le, by_test, and_l, and_r, or_rest}
+use Rattle.promises.specs.Ground.Basics.{either, lt_or_le, and_l, and_r, or_rest}
 use Rattle.promises.specs.Volumes.Judging.{rows_each}
 use Rattle.promises.specs.Volumes.VolumeNumbers.{hex_bounds, kinds_few}
 

@@ -1,7 +1,7 @@
 -- The table of a label by its level: of another level only the extent is judged; of the others every row, with no word of the level.
 -- Assumes nothing.
 use Rattle.std.specs.Prelude.{ℕ, ◌≡◌, refl, Bool, true, false, not, ◌&&◌, List, [], ◌∷◌, drop}
-use Rattle.standard.specs.Characters.{bytes, field, same, a_set}
+use Rattle.standard.specs.Characters.{a_set}
 use Rattle.standard.specs.Rules.{Row, row, lowest_fault}
 use Rattle.standard.specs.Labels.{level, known_level, another_level, rule6, rule23, rule29, rule35, rule40, rule41, rule42, rule43, rule44, rule45, rule46, rule48, rule54, rule58, rule63, rule64, rule67, rule73, rule75, hdr1_rules}
 use Rattle.standard.specs.declared.Geometry.{Geometry}

@@ -1,7 +1,7 @@
 -- Each way out of the judgement: where it stops, and what is left behind the stages passed.
 -- Assumes nothing.
 use Prim.Native.Nat.{ℕ, ◌<◌, ◌≤◌}
-use mathlib.Core.Path.{◌≡◌, refl, sym, ap, subst, ◌∙◌}
+use mathlib.Core.Path.{◌≡◌, sym, ap, subst, ◌∙◌}
 use mathlib.Core.List.{List}
 use lib.ListN.{length}
 use lib.Dec.{ltb}
@@ -13,7 +13,7 @@ use Rattle.standard.specs.Rules.{lowest_fault}
 use Rattle.standard.specs.Layout.{index_kind, vol1_of, ermap_of, image_length}
 use Rattle.standard.specs.Volume.{vol1_rules}
 use Rattle.standard.specs.Defects.{ermap_rules}
-use Rattle.standard.specs.Judgement.{judged, numbers_in, volume_of, refusal6}
+use Rattle.standard.specs.Judgement.{judged, volume_of, refusal6}
 use Rattle.standard.specs.declared.Geometry.{Geometry}
 use Rattle.standard.specs.declared.Refusal.{Refusal}
 use Rattle.standard.specs.declared.Checked.{Checked}

@@ -1,21 +1,16 @@
 -- "Volume order is 1 to 12": the judgement stops at a stage, or goes on behind it.
 -- Assumes nothing.
-use Prim.Native.Nat.{ℕ, suc, ◌+◌, ◌<◌, ◌≤◌}
-use mathlib.Core.Path.{◌≡◌, refl, sym, ap, ◌∙◌}
+use Prim.Native.Nat.{ℕ, suc, ◌<◌, ◌≤◌}
+use mathlib.Core.Path.{◌≡◌, refl}
 use mathlib.Core.Bool.{Bool, true, false, not}
-use mathlib.Core.List.{List, [], ◌∷◌}
-use lib.ListN.{length, get_or, drop}
+use mathlib.Core.List.{List}
+use lib.ListN.{get_or}
 use lib.Seq.{drop-cons}
 use lib.Dec.{ltb, eqb}
-use native.Mathlib.Omega.{arith}
 use borrow.Author.Tests.{lt-ltb, le-ltb, eq-eqb, ne_eqb}
-use Rattle.standard.specs.Characters.{at}
 use Rattle.standard.specs.Refusals.{refuse, given_when, in_order}
-use Rattle.standard.specs.Rules.{lowest_fault}
-use Rattle.standard.specs.Layout.{index_kind, vol1_of, ermap_of, image_length}
-use Rattle.standard.specs.Volume.{vol1_rules}
-use Rattle.standard.specs.Defects.{ermap_rules}
-use Rattle.standard.specs.Judgement.{judged, volume_of, volume_list, volume_refusal, verdict, refusal2}
+use Rattle.standard.specs.Layout.{index_kind}
+use Rattle.standard.specs.Judgement.{judged, volume_of, volume_list, volume_refusal, refusal2}
 use Rattle.standard.specs.declared.Geometry.{Geometry}
 use Rattle.standard.specs.declared.Refusal.{Refusal}
 use Rattle.standard.specs.declared.Checked.{Checked}

@@ -1,6 +1,5 @@
 -- `all_of` meets its contract. The invariant: the test of the whole field is the test of what is left of it.
 -- Assumes nothing.
-use Prim.Native.Nat.{◌-◌}
 use mathlib.Core.Path.{refl, sym, ◌∙◌}
 use native.Mathlib.Omega.{arith}
 use borrow.Author.Rules.{rules}

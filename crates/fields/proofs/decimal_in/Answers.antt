@@ -1,6 +1,5 @@
 -- `decimal_in` meets its contract. The invariant: the digits still to come decide, the number so far goes on with them, and it has no more digits than were passed.
 -- Assumes nothing.
-use Prim.Native.Nat.{◌-◌}
 use mathlib.Core.Bool.{true}
 use mathlib.Core.Path.{◌≡◌, refl, sym, ◌∙◌}
 use native.Mathlib.Omega.{arith}

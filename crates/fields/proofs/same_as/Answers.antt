@@ -1,6 +1,5 @@
 -- `same_as` meets its contract. The invariant: the two fields are as long, and compare as what is left of them does.
 -- Assumes nothing.
-use Prim.Native.Nat.{◌-◌}
 use mathlib.Core.Path.{refl, sym, ◌∙◌}
 use native.Mathlib.Omega.{arith}
 use borrow.Author.Rules.{rules}

@@ -1,7 +1,6 @@
 -- `slot_named` meets its contract: found from here on is found from the first slot.
 -- Assumes nothing.
 use mathlib.Core.Path.{sym, ◌∙◌}
-use Prim.Native.Nat.{◌-◌}
 use Rattle.finding.proofs.FindLaws.{walk_start, walk_met, walk_more, walk_end}
 use borrow.Author.Rules.{rules}
 use native.Mathlib.Omega.{arith}

@@ -3,7 +3,7 @@
 use Rattle.standard.specs.declared.Checked.TheVariants.{Stopped}
 use Rattle.index.proofs.ClashLaws.{passing_start, passing_stop, passing_more, passing_end}
 use Rattle.index.proofs.NameLaws.{keyed_more}
-use Rattle.std.proofs.Common.{ℕ, ◌-◌, List, sym, ap, ◌∙◌, arith, rules}
+use Rattle.std.proofs.Common.{ℕ, List, sym, ap, ◌∙◌, arith, rules}
 use Rattle.standard.specs.Labels.{name_of}
 use Rattle.index.specs.Names.{key_of}
 use Rattle.index.proofs.named.Goals as goal

@@ -1,7 +1,7 @@
 -- `slots` meets its contract: judged from here on is judged from the first slot.
 -- Assumes nothing.
 use Rattle.index.proofs.RefusalLaws.{slots_start, slots_stop, slots_end}
-use Rattle.std.proofs.Common.{◌-◌, sym, ◌∙◌, arith, rules}
+use Rattle.std.proofs.Common.{sym, ◌∙◌, arith, rules}
 use Rattle.standard.specs.Refusals.{or_else}
 use Rattle.index.proofs.slots.Goals as goal
 

@@ -1,6 +1,5 @@
 -- `legal_run` meets its contract: what is found in all is what is passed and what is found from here on.
 -- Assumes nothing.
-use Prim.Native.Nat.{◌-◌}
 use Rattle.layout.proofs.RunLaws.{walk_start, walk_fits, walk_on, walk_stops, walk_ends}
 use borrow.Author.Rules.{rules}
 use native.Mathlib.Omega.{arith}

@@ -13,7 +13,7 @@ use Rattle.standard.specs.Slots.{is_label}
 use Rattle.standard.specs.Judgement.{judged, overlap, same_name}
 use Rattle.standard.specs.Files.{extent_size}
 use Rattle.standard.specs.Finding.{found_from, found}
-use Rattle.standard.specs.Free.{free_records, free_count}
+use Rattle.standard.specs.Free.{free_records}
 use Rattle.standard.specs.Creating.{name_in, proposal_fault, name_used, run_start, no_room, free_run, lowest_run, lowest_deleted, create_refusal, created_start, created_end, created_label, image_created, creation, image_after_create, Creation}
 use Rattle.standard.specs.declared.Run.{Run}
 use Rattle.standard.specs.declared.Run.TheVariants.{NoRun, RunAt}
@@ -22,7 +22,6 @@ use Rattle.standard.specs.declared.Address.{Address}
 use Rattle.standard.specs.declared.Refusal.{Refusal}
 use Rattle.standard.specs.declared.Checked.TheVariants.{Passed}
 use Rattle.standard.specs.declared.Judged.TheVariants.{Volume}
-use Rattle.standard.specs.declared.Counted.TheVariants.{Count}
 use Rattle.standard.specs.declared.Found.{Found}
 use Rattle.standard.specs.declared.Found.TheVariants.{Unfound, At}
 use Rattle.standard.specs.declared.Created.TheVariants.{Placed}
@@ -33,7 +32,7 @@ use Rattle.promises.specs.Volumes.Judging.{accepted, judged_from, label_passes, 
 use Rattle.promises.specs.Volumes.AcceptedLaws.{image_length_lem, label_in_range}
 use Rattle.promises.specs.Volumes.VolumeNumbers.{Numbers, numbers_of_lem}
 use Rattle.promises.specs.Volumes.FindingLaws.{same_equal, same_self, find_named, find_none}
-use Rattle.promises.specs.Volumes.FreeLaws.{has_label_lem, free_counted}
+use Rattle.promises.specs.Volumes.FreeLaws.{has_label_lem}
 use Rattle.promises.specs.Making.RunsFree.{Lowest, lowest_run_lem, run_free, run_meets, LowestDeleted, lowest_deleted_lem}
 use Rattle.promises.proofs.Making.SlotEdits.{Edit, not_named, other_name, edit_accepted, other_found_from, free_fewer}
 use Rattle.promises.proofs.Making.OthersStay.{AsBefore, others_stay}

@@ -14,7 +14,7 @@ use Rattle.standard.specs.Slots.{is_label, is_deleted, has_label}
 use Rattle.standard.specs.Judgement.{judged}
 use Rattle.standard.specs.Files.{extent_size}
 use Rattle.standard.specs.Finding.{found}
-use Rattle.standard.specs.Free.{in_extent, free_records, free_count}
+use Rattle.standard.specs.Free.{in_extent, free_records}
 use Rattle.standard.specs.Creating.{lowest_run, lowest_deleted, delete_refusal, image_without, deletion, image_after_delete, Deletion}
 use Rattle.standard.specs.declared.Run.TheVariants.{NoRun}
 use Rattle.standard.specs.declared.Geometry.{Geometry}
@@ -28,7 +28,6 @@ use Rattle.promises.specs.Volumes.Judging.{accepted, judged_from, order_each, no
 use Rattle.promises.specs.Volumes.AcceptedLaws.{image_length_lem, has_slot, label_in_range, InRange, bounds_extent, labels_apart}
 use Rattle.promises.specs.Volumes.VolumeNumbers.{Numbers, numbers_of_lem}
 use Rattle.promises.specs.Volumes.FindingLaws.{one_of_name, find_none}
-use Rattle.promises.specs.Volumes.FreeLaws.{free_counted}
 use Rattle.promises.specs.Making.RunsFree.{Free, no_run, none_deleted}
 use Rattle.promises.proofs.Making.SlotEdits.{Edit, not_named, other_name, edit_back, edit_accepted, other_label, other_is_label, other_has, other_found_from, free_fewer}
 use Rattle.promises.proofs.Making.OthersStay.{AsBefore, others_stay}

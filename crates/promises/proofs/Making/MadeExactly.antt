@@ -3,7 +3,6 @@
 use Rattle.std.specs.Prelude.{ℕ, ◌+◌, ◌<◌, ◌≤◌, ◌≡◌, true, List, [], ◌∷◌}
 use Rattle.std.proofs.Math.Path.{refl, ap}
 use Rattle.std.proofs.Common.{sym, subst, ◌∙◌, arith, ne_eqb}
-use Rattle.standard.specs.Characters.{at}
 use Rattle.standard.specs.Refusals.{refuse, given_when, in_order}
 use Rattle.standard.specs.Layout.{slot_count, label_at}
 use Rattle.standard.specs.Addresses.{rank, address_of, address_count, legal}

@@ -7,7 +7,7 @@ use Rattle.std.proofs.Math.Logic.{inl, inr}
 use Rattle.std.proofs.Math.ListN.{get_or}
 use native.Mathlib.Omega.{arith}
 use borrow.Author.Tests.{eq-eqb, eqb-true, ne_eqb, not-false}
-use Rattle.standard.specs.Characters.{byte, bytes, same}
+use Rattle.standard.specs.Characters.{byte}
 use Rattle.standard.specs.Layout.{k_at, kind_offset, body_offset, kind_at, first_byte, valid_mark, incorrect_mark, check_failed, slot_count, slot_ordinal, label_offset, label_at}
 use Rattle.standard.specs.Refusals.{given_when}
 use Rattle.standard.specs.Slots.{is_label, is_deleted, is_unreadable, slot_refusal}

@@ -10,7 +10,6 @@ use Rattle.standard.specs.declared.Geometry.{Geometry}
 use Rattle.standard.specs.declared.Checked.TheVariants.{Passed}
 use Rattle.standard.specs.declared.Judged.TheVariants.{Volume}
 use Rattle.promises.specs.Ground.Basics.{either, eq_or_not}
-use Rattle.promises.specs.Images.Tiling.{lengths}
 use Rattle.promises.specs.Images.Sectors.{sector_at}
 use Rattle.promises.specs.Volumes.Judging.{Accepted, accepted, label_passes}
 use Rattle.promises.specs.Volumes.AcceptedLaws.{image_length_lem, has_slot}

@@ -15,7 +15,6 @@ use Rattle.standard.specs.declared.Checked.TheVariants.{Passed}
 use Rattle.standard.specs.declared.Judged.TheVariants.{Volume}
 use Rattle.promises.specs.Ground.Lists.{every_take, every_map}
 use Rattle.promises.specs.Images.AddressLaws.{ordinal_ge, ordinal_inj}
-use Rattle.promises.specs.Images.Tiling.{lengths}
 use Rattle.promises.specs.Volumes.AcceptedLaws.{has_slot, label_in_range, bounds_extent, labels_apart}
 use Rattle.promises.specs.Volumes.VolumeNumbers.{numbers_of_lem, slot_in_index}
 use Rattle.promises.specs.Volumes.IndexLaws.{same_label, same_has_label}

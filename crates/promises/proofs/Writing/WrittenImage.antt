@@ -20,7 +20,6 @@ use Rattle.promises.specs.Ground.Basics.{either, lt_or_le, eq_or_not}
 use Rattle.promises.specs.Ground.Lists.{Every, every_map}
 use Rattle.promises.specs.Ground.Splices.{Outside, part_part}
 use Rattle.promises.specs.Images.AddressLaws.{Legal, ordinal_ge}
-use Rattle.promises.specs.Images.Tiling.{lengths}
 use Rattle.promises.specs.Images.Sectors.{sector_at}
 use Rattle.promises.specs.Images.SectorLaws.{kind_legal, same_kind, same_legal_kind}
 use Rattle.promises.specs.Volumes.AcceptedLaws.{image_length_lem}

@@ -18,7 +18,6 @@ use Rattle.standard.specs.declared.Address.{Address}
 use Rattle.standard.specs.declared.Checked.TheVariants.{Passed}
 use Rattle.standard.specs.declared.Judged.TheVariants.{Volume}
 use Rattle.promises.specs.Ground.Basics.{or_right}
-use Rattle.promises.specs.Images.Tiling.{lengths}
 use Rattle.promises.specs.Volumes.AcceptedLaws.{label_faultless}
 use Rattle.promises.specs.Volumes.LabelRules.{Rules, label_rules, fixed_format}
 use Rattle.promises.specs.Volumes.VolumeNumbers.{numbers_of_lem}

@@ -1,8 +1,7 @@
 -- THE ONE RETURNED NUMBER, the caller's side: how a caller in C takes it apart, as include/galzeranta.h does. proofs/Bounds/PackedLaws proves that it then has
 -- the answer of the definitions again, all of it.
 -- Assumes nothing.
-use Rattle.std.specs.Prelude.{ℕ, ◌+◌, ◌*◌, ◌/◌, ◌%◌, ◌^◌, Bool, cond, eqb}
-use Rattle.standard.specs.Writing.{written}
+use Rattle.std.specs.Prelude.{ℕ, ◌*◌, ◌/◌, ◌%◌, ◌^◌, Bool, cond, eqb}
 use Rattle.standard.specs.declared.Address.{Address}
 use Rattle.standard.specs.declared.Created.{Created}
 use Rattle.standard.specs.declared.Created.TheVariants.{Uncreated, Placed}

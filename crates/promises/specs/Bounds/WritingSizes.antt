@@ -1,6 +1,5 @@
 -- The refusal of a write as the returned number gives it.
 -- Assumes nothing.
-use Rattle.std.specs.Prelude.{◌^◌}
 use Rattle.standard.specs.Packed.{most}
 use Rattle.standard.specs.declared.Refusal.{Refusal}
 

@@ -1,6 +1,6 @@
 -- What no rule judges of the first seven sectors of the index cylinder, and what two labels share that have the same bytes everywhere else.
 -- Assumes nothing.
-use Rattle.std.specs.Prelude.{ℕ, ◌+◌, ◌-◌, ◌≤◌, ◌≡◌, List, length, get_or}
+use Rattle.std.specs.Prelude.{ℕ, ◌+◌, ◌≤◌, ◌≡◌, List, length, get_or}
 use Rattle.std.proofs.Common.{arith}
 
 -- ======== THE POSITIONS

@@ -6,7 +6,7 @@ use Rattle.std.proofs.lemmas.Bool.{not-true, not-false}
 use Rattle.standard.specs.Layout.{slot_count, label_at, image_length}
 use Rattle.standard.specs.Addresses.{is_address, legal, five_digits, address_in, rank, before}
 use Rattle.standard.specs.Labels.{rule29, rule35, hdr1_rules, label_fault, start_of, end_of}
-use Rattle.standard.specs.Characters.{field, between, at}
+use Rattle.standard.specs.Characters.{field, between}
 use Rattle.standard.specs.Free.{in_extent}
 use Rattle.standard.specs.Slots.{is_label, has_label}
 use Rattle.standard.specs.Judgement.{overlap, shares, judged}

@@ -10,7 +10,6 @@ use borrow.Author.Tests.{ltb-true, ltb-false}
 use Rattle.standard.specs.Layout.{slot_count, sector_count, slot_ordinal, valid_mark, ermap_of, vol1_of, label_at}
 use Rattle.standard.specs.Refusals.{given_when, in_order, or_else}
 use Rattle.standard.specs.Labels.{label_fault}
-use Rattle.standard.specs.Characters.{at}
 use Rattle.standard.specs.Slots.{is_label, slot_refusal, slots_from, is_unreadable}
 use Rattle.standard.specs.Judgement.{volume_of, refusal1, refusal2, refusal3, refusal4, refusal5, refusal6, refusal7, refusal8to10, clashes_below, clashes_from, refusal11, refusal12, volume_refusal, verdict, judged, legal_kind, kinds_from}
 use Rattle.standard.specs.Rules.{Row, lowest_fault}

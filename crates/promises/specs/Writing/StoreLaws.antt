@@ -1,17 +1,15 @@
 -- Laws of the write loop: blocks, records and lengths taken one by one, a part after another, or one more.
 -- Assumes nothing.
-use Rattle.std.specs.Prelude.{ℕ, zero, suc, ◌+◌, ◌-◌, ◌*◌, ◌<◌, ◌≤◌, ◌≡◌, refl, true, List, [], ◌∷◌, ◌++◌, length, get_or, take, drop}
-use Rattle.std.proofs.Common.{sym, ap, ◌∙◌, inl, inr, append_assoc, length-append, length-take-le, take_at, drop-drop, drop-cons, take-suc, ext_get_or, arith, add-one}
+use Rattle.std.specs.Prelude.{ℕ, zero, suc, ◌+◌, ◌-◌, ◌*◌, ◌<◌, ◌≤◌, ◌≡◌, refl, List, [], ◌∷◌, ◌++◌, length, get_or, take, drop}
+use Rattle.std.proofs.Common.{sym, ap, ◌∙◌, append_assoc, length-append, length-take-le, take_at, drop-drop, drop-cons, arith, add-one}
 use Rattle.std.proofs.Math.Seq.{drop-append-add}
-use Rattle.standard.specs.Layout.{k_at, kind_offset, body_offset, image_length}
-use Rattle.standard.specs.Addresses.{legal, ordinal, first_address}
+use Rattle.standard.specs.Layout.{k_at, kind_offset, body_offset}
+use Rattle.standard.specs.Addresses.{ordinal}
 use Rattle.standard.specs.Packing.{fill}
 use Rattle.standard.specs.Writing.{total, parted, splice, filled_to, store_record, store_block, store_blocks}
 use Rattle.standard.specs.declared.Geometry.{Geometry}
 use Rattle.standard.specs.declared.Address.{Address}
-use Rattle.promises.specs.Ground.Basics.{either, lt_or_le}
-use Rattle.promises.specs.Images.Tiling.{sectors_apart, address_size, address_room}
-use Rattle.promises.specs.Ground.Splices.{Outside, splice_length, splice_at, splice_outside, filled_length}
+use Rattle.promises.specs.Ground.Splices.{splice_at}
 
 -- ---- SPLICES
 

@@ -1,7 +1,6 @@
 -- `lowest_deleted` meets its contract: deleted from here on is deleted from the first slot.
 -- Assumes nothing.
 use mathlib.Core.Path.{sym, ◌∙◌}
-use Prim.Native.Nat.{◌-◌}
 use native.Mathlib.Omega.{arith}
 use borrow.Author.Tests.{not-true, not-false}
 use Rattle.vacancy.proofs.PassLaws.{deleted_start, deleted_here, deleted_more, deleted_all}

@@ -1,6 +1,5 @@
 -- `lowest_run` meets its contract: the rows hold the extents of the slots passed, in the end of all.
 -- Assumes nothing.
-use Prim.Native.Nat.{◌-◌}
 use native.Mathlib.Omega.{arith}
 use Rattle.standard.specs.Layout.{slot_count}
 use Rattle.index.proofs.ExtentLaws.{known_none, known_at, known_more}
