@@ -1,7 +1,7 @@
 -- The fields of a line as their parts in a row.
 -- Assumes nothing.
 use Prim.Native.Nat.{ℕ, ◌+◌, ◌/◌, ◌%◌, ◌<◌, ◌≤◌}
-use mathlib.Core.Path.{◌≡◌, refl, sym, ap, subst, ◌∙◌}
+use mathlib.Core.Path.{◌≡◌, refl, sym, ap, ◌∙◌}
 use mathlib.Core.List.{List, [], ◌∷◌, ◌++◌, append_assoc}
 use lib.ListN.{length, get_or, take, drop, length-take, drop_of_length-le}
 use lib.Seq.{drop-cons}
@@ -14,7 +14,6 @@ use Rattle.standard.specs.declared.Place.{Place}
 use Rattle.standard.specs.declared.Refusal.{Refusal}
 use Rattle.standard.specs.declared.Answer.{Answer}
 use Rattle.standard.specs.declared.Answer.TheVariants.{Unanswered, Gap, End, Record as RecordOf}
-use Rattle.text.specs.Laid.{Puts}
 use Rattle.following.specs.Lines.{spaced, place_fields, hex_digit, pair_of, hex_of, body_field, refused_fields, record_fields, answer_fields, mode_of}
 
 -- byte after byte

@@ -3,6 +3,7 @@
 use Rattle.std.specs.Prelude.{ℕ, ◌+◌, ◌/◌, ◌%◌, Bool, true, false, cond, List, [], ◌∷◌, ◌++◌, take, ltb, eqb}
 use Rattle.standard.specs.Characters.{bytes, byte, shown}
 use Rattle.standard.specs.Records.{Mode, plain, salvage}
+use Rattle.standard.specs.Reading.{read_answer, output_after}
 use Rattle.standard.specs.declared.Place.{Place}
 use Rattle.standard.specs.declared.Refusal.{Refusal}
 use Rattle.standard.specs.declared.Answer.{Answer}
@@ -55,6 +56,10 @@ answer_line slot mode a out = shown slot ++ (spaced (mode ∷ []) ++ (answer_fie
 -- the letter of salvage is `s`
 abbrev pub mode_of : ℕ → Mode
 mode_of letter = cond (eqb letter 115) salvage plain
+
+-- the line of a reading: what it answers, and the output as it leaves it
+abbrev pub reading_line : List ℕ → ℕ → ℕ → Place → List ℕ → List ℕ
+reading_line image slot mode pl out = answer_line slot mode (read_answer (mode_of mode) image slot pl out) (output_after (mode_of mode) image slot pl out)
 
 -- Whether there is a place to go on from, and which. End and a refusal stop the row.
 abbrev pub goes_on : Answer → Bool

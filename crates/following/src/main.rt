@@ -1,17 +1,22 @@
 // The following program: it reads an image of at most 65,536 bytes from standard input, and follows the places of every slot from Start, in plain reading and
 // in salvage, so that both can be compared with an independent reader. Each file is opened once. One line is printed for each answer.
-ghost use Rattle.std.specs.Prelude.{◌≡◌, [], ◌∷◌, ◌++◌, ◌+◌, ◌*◌, ◌<◌, ◌≤◌, length, take, replicate};
+#![tactic(auto)]
+
+ghost use Rattle.std.specs.Prelude.{◌≡◌, [], ◌∷◌, ◌++◌, ◌+◌, ◌*◌, ◌<◌, ◌≤◌, length, take, replicate, IfOk};
+ghost use Rattle.std.specs.Io.{ReadsAtMost};
+ghost use Rattle.std.specs.Io.KnownBytes.{Consumes, IsAtEnd};
 ghost use Rattle.standard.specs.Characters.{shown};
 ghost use Rattle.standard.specs.Places.{start};
 ghost use Rattle.standard.specs.Records.{plain};
 ghost use Rattle.standard.specs.Reading.{read_answer};
 ghost use Rattle.text.specs.Laid.{Puts};
 ghost use Rattle.opened.specs.Carries.{Carries, Asks};
-ghost use Rattle.following.specs.Lines.{spaced, mark_number, place_fields, hex_digit, pair_of, hex_of, body_field, refused_fields, record_fields, answer_fields, answer_line, mode_of, goes_on, next_of, of_volume};
+ghost use Rattle.following.specs.Lines.{spaced, mark_number, place_fields, hex_digit, pair_of, hex_of, body_field, refused_fields, record_fields, answer_fields, answer_line, mode_of, reading_line, goes_on, next_of, of_volume};
 
-use libc::{STDIN_FILENO, STDOUT_FILENO};
 use opened::{Carried, Told, carry, read_next, salvage_next};
 use standard::{Answer, Place, Refusal};
+use std::io;
+use std::io::Read;
 use text::{put_byte, put_bytes, put_named, put_number, put_refusal};
 
 fn mark_number(mark: bool) -> u64
@@ -181,37 +186,39 @@ fn ask(image: &[u8], carried: Carried, mode: u8, place: Place, out: &mut [u8]) -
     read_next(image, carried, place, out)
 }
 
-// One reading, and its line. The output has 4,096 bytes.
-fn turn(image: &[u8], carried: Carried, mode: u8, place: Place) -> Told
+// One reading, and its line, which it puts into `line`. The output has 4,096 bytes.
+fn turn(image: &[u8], carried: Carried, mode: u8, place: Place, line: &mut [u8]) -> (Told, usize)
     requires { Carries image.now carried }
-    ensures { (result.answer ≡ read_answer (mode_of mode) image.now carried.slot place (replicate 4096 0)) × (Carries image.now result.carried) × (result.carried.slot ≡ carried.slot) }
+    ensures told { (result.0.answer ≡ read_answer (mode_of mode) image.now carried.slot place (replicate 4096 0)) × (Carries image.now result.0.carried) × (result.0.carried.slot ≡ carried.slot) }
+    ensures line { Puts line.old line.new 0 result.1 (reading_line image.now carried.slot mode place (replicate 4096 0)) × (result.1 ≤ 8448) }
 {
     let mut lent = [0u8; 4096];
     let told = ask(image, carried, mode, place, &mut lent);
     let a = told.answer;
-    let mut line = [0u8; 8448];
-    let length = put_line(&mut line, carried.slot, mode, a, &lent);
-    io::write_all(STDOUT_FILENO, &line[..length]);
-    told
+    let length = put_line(line, carried.slot, mode, a, &lent);
+    (told, length)
 }
 
 // The row of a file: Start, then each place that is handed out, up to End or a refusal.
-fn follow(image: &[u8], from: Carried, mode: u8)
+fn follow(rt: &impl Print, image: &[u8], from: Carried, mode: u8) -> io::Result<()>
     requires { Carries image.now from }
 {
     let mut carried = from;
     let mut place = Place::START;
     let mut left: u64 = 4096;
+    let mut line = [0u8; 8448];
     while 0 < left {
-        let told = turn(image, carried, mode, place);
+        let (told, length) = turn(image, carried, mode, place, &mut line);
+        rt.write_all(&line[..length])?;
         let a = told.answer;
         if !goes_on(a) {
-            return;
+            return Ok(());
         }
         carried = told.carried;
         place = next_of(a, place);
         left -= 1;
     }
+    Ok(())
 }
 
 // The first answer of a file, with no line.
@@ -225,27 +232,45 @@ fn first_answer(image: &[u8], carried: Carried) -> Answer
 }
 
 // All rows: for each slot there may be, plain reading (`r`) and salvage (`s`). Where the volume is refused there is one line.
-fn rows(image: &[u8]) {
+fn rows(rt: &impl Print, image: &[u8]) -> io::Result<()> {
     let first = carry(image, 1);
     if of_volume(first_answer(image, first)) {
-        turn(image, first, 114, Place::START);
-        return;
+        let mut line = [0u8; 8448];
+        let (_, length) = turn(image, first, 114, Place::START, &mut line);
+        return rt.write_all(&line[..length]);
     }
     let mut slot: u64 = 1;
     while slot <= 45 {
         let carried = carry(image, slot);
-        follow(image, carried, 114);
-        follow(image, carried, 115);
+        follow(rt, image, carried, 114)?;
+        follow(rt, image, carried, 115)?;
         slot += 1;
     }
+    Ok(())
 }
 
-fn main() {
-    let mut image = [0u8; 65537];
-    let size = io::read_full(STDIN_FILENO, &mut image);
-    if 65536 < size {
-        io::write_all(STDOUT_FILENO, b"TOO LONG\n");
-        return;
+// Reads until the buffer is full or the input ends. What was read stands at the start of the buffer; the answer is its length.
+fn read_full<R: Read>(input: &mut R, buffer: &mut [u8]) -> io::Result<usize>
+    ensures within { ReadsAtMost result buffer.new }
+    ensures bytes { IfOk result (λ n. Consumes (R.remaining input.old) (R.remaining input.new) (take n buffer.new)) }
+    ensures end { IfOk result (λ n. n < length buffer.new → IsAtEnd (R.remaining input.new)) }
+{
+    let mut filled = 0;
+    while filled < buffer.len() {
+        let n = input.read(&mut buffer[filled..])?;
+        if n == 0 {
+            break;
+        }
+        filled += n;
     }
-    rows(&image[..size]);
+    Ok(filled)
+}
+
+fn main(rt: HostRuntime) -> io::Result<()> {
+    let mut image = [0u8; 65537];
+    let size = read_full(&mut rt.stdin(), &mut image)?;
+    if 65536 < size {
+        return rt.write_all(b"TOO LONG\n");
+    }
+    rows(&rt, &image[..size])
 }
