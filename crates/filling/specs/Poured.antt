@@ -1,6 +1,6 @@
 -- Bytes laid over the bodies of good records in turn.
 -- Assumes nothing.
-use Rattle.std.specs.Prelude.{ℕ, ◌+◌, ◌-◌, ◌<◌, ◌≤◌, ◌≡◌, true, List, [], ◌∷◌, ◌++◌, length, take, drop}
+use Rattle.std.specs.Prelude.{ℕ, ◌+◌, ◌-◌, ◌<◌, ◌≤◌, ◌≡◌, true, List, [], ◌∷◌, ◌++◌, take, drop}
 use Rattle.standard.specs.Layout.{k_at, kind_offset, body_offset}
 use Rattle.standard.specs.Addresses.{ordinal}
 use Rattle.standard.specs.Packing.{fill}

@@ -3,7 +3,7 @@
 use Rattle.std.specs.Prelude.{ℕ, cond, List, [], ◌∷◌, ◌++◌}
 use Rattle.standard.specs.Characters.{bytes, byte, shown}
 use Rattle.standard.specs.Addresses.{five_bytes}
-use Rattle.standard.specs.Labels.{level, name_of, block_length, record_length, unused_count, format_of, start_of, end_of}
+use Rattle.standard.specs.Labels.{name_of, block_length, record_length, unused_count, format_of, start_of, end_of}
 use Rattle.standard.specs.Layout.{label_at}
 use Rattle.standard.specs.Slots.{is_label}
 use Rattle.standard.specs.Listing.{newline, level_shown, format_shown, blocked_shown, count_shown, label_line}

@@ -1,7 +1,7 @@
 -- From record to record: what is to be laid from here is what was to be laid from the start.
 -- Assumes nothing.
 use mathlib.Core.Path.{refl, sym, ◌∙◌}
-use Prim.Native.Nat.{◌-◌, ◌<◌}
+use Prim.Native.Nat.{◌<◌}
 use lib.ListN.{length, get_or}
 use native.Mathlib.Omega.{arith}
 use Rattle.laying.proofs.DeskLaws.{record_on, record_fits, records_end}

@@ -1,5 +1,4 @@
 -- The same walk again, and at each turn what of the body stands there.
-use Prim.Native.Nat.{◌-◌}
 use Rattle.walks.specs.Walks.{to_go}
 use Rattle.reading.proofs.MeetingLaws.{Delivering}
 use Rattle.reading.proofs.deliver.Given as goal

@@ -2,7 +2,6 @@
 -- Assumes nothing.
 use mathlib.Core.Path.{refl, sym, ◌∙◌}
 use native.Mathlib.Omega.{arith}
-use Rattle.walks.specs.Stands.{length_of}
 use Rattle.reading.proofs.MeetingLaws.{turned_less, done_says, measures_on, on_same}
 use Rattle.reading.proofs.ReplyLaws.{answers_end, answers_from}
 use Rattle.reading.proofs.read_from.Goals as goal

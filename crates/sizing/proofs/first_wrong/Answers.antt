@@ -1,7 +1,6 @@
 -- The first wrong length from here is the first from the start.
 -- Assumes nothing.
 use Rattle.standard.specs.declared.Checked.TheVariants.{Stopped}
-use Prim.Native.Nat.{◌-◌}
 use mathlib.Core.Path.{sym, ap, ◌∙◌}
 use native.Mathlib.Omega.{arith}
 use Rattle.labels.specs.Forms.{format_for}

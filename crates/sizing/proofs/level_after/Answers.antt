@@ -1,6 +1,5 @@
 -- Record after record: where the writer stands behind the rest is where it stands behind the whole.
 -- Assumes nothing.
-use Prim.Native.Nat.{◌-◌}
 use mathlib.Core.Path.{refl, sym, subst, ◌∙◌}
 use native.Mathlib.Omega.{arith}
 use Rattle.promises.specs.Writing.StoreLaws.{total_drop}

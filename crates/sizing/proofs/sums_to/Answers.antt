@@ -1,6 +1,5 @@
 -- What is left of the number, and of the lengths: they differ by as much all the way.
 -- Assumes nothing.
-use Prim.Native.Nat.{◌-◌}
 use native.Mathlib.Omega.{arith}
 use Rattle.promises.specs.Writing.StoreLaws.{total_drop}
 use Rattle.sizing.proofs.LevelLaws.{sum_over, sum_end}

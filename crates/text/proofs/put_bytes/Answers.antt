@@ -1,6 +1,6 @@
 -- Byte after byte: what puts the rest from here puts the whole.
 -- Assumes nothing.
-use Prim.Native.Nat.{ℕ, ◌-◌, ◌≤◌}
+use Prim.Native.Nat.{ℕ, ◌≤◌}
 use mathlib.Core.Path.{refl, sym, ap, ◌∙◌}
 use mathlib.Core.List.{◌∷◌}
 use lib.ListN.{length, get_or, drop, drop_of_length-le}

@@ -1,5 +1,5 @@
 -- The digits from the first on: what puts the rest from here puts the whole.
-use Prim.Native.Nat.{◌+◌, ◌-◌, ◌<◌}
+use Prim.Native.Nat.{◌+◌, ◌<◌}
 use mathlib.Core.Path.{◌≡◌}
 use lib.ListN.{length}
 use Rattle.standard.specs.Characters.{padded}

@@ -1,5 +1,4 @@
 -- Digit after digit is taken off.
-use Prim.Native.Nat.{◌-◌}
 use mathlib.Core.Path.{◌≡◌}
 use Rattle.text.specs.Laid.{without}
 use Rattle.text.proofs.without.Given as goal
