@@ -109,7 +109,7 @@ fn crate_text(preamble: &Preamble, first: usize, part: &[Case]) -> (String, usiz
         equations += facts.len();
         let _ = write!(
             text,
-            "\n-- {} {number}\nabbrev image-{number} : List ℕ\nimage-{number} =\n    {}\n\ncase-{number} :\n    ({})\nunfolding{}\ncase-{number} = {}\n",
+            "\n-- {} {number}\nabbrev image_{number} : List ℕ\nimage_{number} =\n    {}\n\ncase_{number} :\n    ({})\nunfolding{}\ncase_{number} = {}\n",
             case.family,
             list(&case.image),
             facts.join(")\n    × ("),
@@ -125,7 +125,7 @@ fn write_crate(folder: &Path, text: &str) -> io::Result<()> {
     fs::create_dir_all(folder.join("specs"))?;
     fs::write(
         folder.join("src/lib.rt"),
-        "// Equations only: see specs/Cases.antt.\n",
+        "// Equations only: see specs/Cases.antt.\n#![tactic(auto)]\n",
     )?;
     fs::write(folder.join("specs/Lib.antt"), "pub mod Cases\n")?;
     fs::write(folder.join("specs/Cases.antt"), text)
@@ -271,11 +271,8 @@ impl Preamble {
         let mut imports = String::from(
             "-- Cases of the independent program, as equations about the definitions.\n\
              -- Assumes nothing.\n\
-             use Prim.Native.Nat.{ℕ}\n\
-             use mathlib.Core.Path.{_≡_, refl}\n\
-             use mathlib.Core.Bool.{true, false}\n\
-             use mathlib.Core.List.{List, [], _∷_, _++_, flatten}\n\
-             use lib.ListN.{replicate}\n",
+             use Rattle.std.specs.Prelude.{ℕ, ◌≡◌, refl, true, false, replicate}\n\
+             use mathlib.Core.List.{List, [], ◌∷◌, ◌++◌, flatten}\n",
         );
         // The library's definition that the packing of F computes with; all others here open by themselves.
         let mut unfolding = String::from(" flatten");
@@ -294,7 +291,7 @@ impl Preamble {
                 let module = module.to_string_lossy();
                 let _ = writeln!(
                     imports,
-                    "use Rattle·standard.specs.{module}.{{{}}}",
+                    "use Rattle.standard.specs.{module}.{{{}}}",
                     all.join(", ")
                 );
             }
@@ -309,15 +306,15 @@ impl Preamble {
 /// Those of the cited names that are no `unfoldable` definitions.
 const CITED: [&str; 10] = [
     "bytes",
-    "volumeOf",
-    "readAnswer",
-    "outputAfter",
+    "volume_of",
+    "read_answer",
+    "output_after",
     "written",
-    "imageAfter",
+    "image_after",
     "created",
-    "imageAfterCreate",
+    "image_after_create",
     "deleted",
-    "imageAfterDelete",
+    "image_after_delete",
 ];
 
 /// The modules that hold definitions: the examples and edges hold facts.
@@ -349,31 +346,33 @@ fn declares(text: &str, mode: &str) -> bool {
 fn facts(number: usize, image: &[u8], call: &Call) -> Vec<String> {
     let found = answer(image, call);
     let packed = found.packed;
-    let image_name = format!("image-{number}");
+    let image_name = format!("image_{number}");
     let after = |name: String| match found.image == image {
         true => name,
         false => list(&found.image),
     };
     match call {
-        Call::Judge => vec![format!("packedJudged (judged {image_name}) ≡ {packed}")],
+        Call::Judge => vec![format!("packed_judged (judged {image_name}) ≡ {packed}")],
         // 0 is given where there is no such cylinder: nothing to define.
         Call::Physical { .. } if packed == 0 => facts(number, image, &Call::Judge),
         // The two comparisons, and the walk beside them.
         Call::Physical { cylinder } => ["physical", "walked"]
-            .map(|by| format!("{by} (volumeOf {image_name}) {cylinder} ≡ {packed}"))
+            .map(|by| format!("{by} (volume_of {image_name}) {cylinder} ≡ {packed}"))
             .to_vec(),
         Call::Find { name } => {
             vec![format!(
-                "packedFound (found {image_name} ({})) ≡ {packed}",
+                "packed_found (found {image_name} ({})) ≡ {packed}",
                 list(name)
             )]
         }
         Call::Count { slot } => {
             vec![format!(
-                "packedCounted (counted {image_name} {slot}) ≡ {packed}"
+                "packed_counted (counted {image_name} {slot}) ≡ {packed}"
             )]
         }
-        Call::Free => vec![format!("packedCounted (freeCount {image_name}) ≡ {packed}")],
+        Call::Free => vec![format!(
+            "packed_counted (free_count {image_name}) ≡ {packed}"
+        )],
         Call::Read {
             slot,
             block,
@@ -396,8 +395,8 @@ fn facts(number: usize, image: &[u8], call: &Call) -> Vec<String> {
             let place = place(*block, *offset, *mark);
             let call = format!("{mode} {image_name} {slot} {place} ({})", list(out));
             vec![
-                format!("packedAnswer (readAnswer {call}) ≡ {packed}"),
-                format!("outputAfter {call} ≡ ({})", list(&found.out)),
+                format!("packed_answer (read_answer {call}) ≡ {packed}"),
+                format!("output_after {call} ≡ ({})", list(&found.out)),
             ]
         }
         Call::Write {
@@ -408,22 +407,22 @@ fn facts(number: usize, image: &[u8], call: &Call) -> Vec<String> {
             let lengths: String = lengths.iter().map(|n| format!("{n} ∷ ")).collect();
             let call = format!("{image_name} {slot} ({}) ({lengths}[])", list(bodies));
             vec![
-                format!("packedWritten (written {call}) ≡ {packed}"),
-                format!("imageAfter {call} ≡ ({})", after(image_name)),
+                format!("packed_written (written {call}) ≡ {packed}"),
+                format!("image_after {call} ≡ ({})", after(image_name)),
             ]
         }
         Call::Create { fields, n } => {
             let call = format!("{image_name} ({}) {n}", list(fields));
             vec![
-                format!("packedCreated (created {call}) ≡ {packed}"),
-                format!("imageAfterCreate {call} ≡ ({})", after(image_name)),
+                format!("packed_created (created {call}) ≡ {packed}"),
+                format!("image_after_create {call} ≡ ({})", after(image_name)),
             ]
         }
         Call::Delete { slot } => {
             let call = format!("{image_name} {slot}");
             vec![
-                format!("packedCounted (deleted {call}) ≡ {packed}"),
-                format!("imageAfterDelete {call} ≡ ({})", after(image_name)),
+                format!("packed_counted (deleted {call}) ≡ {packed}"),
+                format!("image_after_delete {call} ≡ ({})", after(image_name)),
             ]
         }
         Call::Listing => vec![format!("listing {image_name} ≡ ({})", list(&found.out))],
