@@ -3,7 +3,7 @@
  *
  * Link libgalzeranta.a (x86-64, System V calls). This header includes nothing and asks for no C library, so that a kernel module takes it as it is: galz_u8,
  * galz_u32 and galz_u64 are the types that kernels know as u8, u32 and u64. All that the archive wants is memset and memcpy. There are two of it, from the
- * same proved code: a program links that of 'rt staticlib galzeranta', which uses SSE registers, the red zone and a stack aligned to 16; a kernel that of
+ * same proved code: a program links that of '.ci/library-archive', which uses SSE registers, the red zone and a stack aligned to 16; a kernel that of
  * '.ci/kernel-archive', which uses none of them. docs/CALLING.md says what a caller in a kernel owes and gets.
  *
  * A slice is a pointer and the count of its elements. Every call takes any bytes, of any length, and any numbers: nothing has to be tested first, and

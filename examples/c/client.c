@@ -7,7 +7,7 @@
  * The image stays as it is on disk: all happens in memory. Each step says a line of what it did, and the program ends with 1 where an answer is not the one
  * that it expects.
  *
- * rt staticlib galzeranta && cc -std=c11 -O2 examples/c/client.c target/staticlib/libgalzeranta.a (x86-64).
+ * .ci/library-archive && cc -std=c11 -O2 examples/c/client.c target/libgalzeranta.a (x86-64).
  */
 #include "../../include/galzeranta.h"
 
