@@ -185,7 +185,7 @@ pub fn address_first() -> Address
 }
 
 pub fn address_step(a: Address, g: Geometry) -> Address
-    ensures { Allows (moved Calls.Address-step) (stepping g a) result [] }
+    ensures { Allows (moved Calls.address_step) (stepping g a) result [] }
 {
     a.step(g)
 }

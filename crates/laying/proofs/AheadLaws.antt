@@ -15,7 +15,8 @@ use Rattle.standard.specs.Packing.{Packing, fill, lay_f, record_v, lay_one, segm
 use Rattle.standard.specs.Writing.{filled_to}
 use Rattle.promises.specs.Ground.Lists.{Every, every_drop}
 use Rattle.promises.specs.Writing.Laying.{place_if, lay, laid_v}
-use Rattle.promises.proofs.Writing.NeededLaws.{least_for_lem, Tiled, every_lengths}
+use Rattle.promises.specs.Writing.NeededLaws.{Tiled}
+use Rattle.promises.proofs.Writing.NeededLaws.{least_for_lem, every_lengths}
 use Rattle.promises.proofs.Writing.WritingPromises.{joined}
 use Rattle.promises.specs.Writing.WritingLaws.{segment_length, record_v_length, within_v, least_five, goes_on_lem}
 use Rattle.filling.specs.Poured.{flat}

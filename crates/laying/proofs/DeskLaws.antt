@@ -22,7 +22,8 @@ use Rattle.labels.specs.declared.Form.{Form}
 use Rattle.labels.specs.declared.Form.TheVariants.{Fixed, Variable, Spanned}
 use Rattle.promises.specs.Ground.Lists.{Every}
 use Rattle.promises.specs.Writing.Laying.{place_if, pack_some, pack_none}
-use Rattle.promises.proofs.Writing.NeededLaws.{least_for, least_for_lem, EachFits, Tiled}
+use Rattle.promises.specs.Writing.NeededLaws.{least_for, EachFits, Tiled}
+use Rattle.promises.proofs.Writing.NeededLaws.{least_for_lem}
 use Rattle.promises.specs.Writing.StoreLaws.{total_drop}
 use Rattle.promises.proofs.Writing.WritingPromises.{parted_lengths, parted_joined}
 use Rattle.standard.specs.declared.Address.{Address}

@@ -5,7 +5,7 @@ use Rattle.standard.specs.Packing.{fill, record_v, Laid, least, start_if, spread
 use Rattle.standard.specs.Writing.{filled_to}
 use Rattle.standard.specs.declared.Geometry.{Geometry}
 use Rattle.promises.specs.Writing.Laying.{place_if}
-use Rattle.promises.proofs.Writing.NeededLaws.{least_for}
+use Rattle.promises.specs.Writing.NeededLaws.{least_for}
 use Rattle.filling.specs.Poured.{flat, laid_by, Placed, Lays}
 use Rattle.laying.specs.declared.Shape.{Shape}
 use Rattle.laying.specs.declared.Desk.{Desk}

@@ -7,7 +7,7 @@ ghost use Rattle.std.specs.Prelude.{◌≡◌, true, false, cond, ◌++◌, ℕ,
 ghost use Rattle.standard.specs.Packing.{fill, role_byte, segment, segment_role, spread, pack_in};
 ghost use Rattle.standard.specs.Writing.{total, parted};
 ghost use Rattle.promises.specs.Ground.Lists.{Every};
-ghost use Rattle.promises.proofs.Writing.NeededLaws.{least_for, EachFits, Tiled};
+ghost use Rattle.promises.specs.Writing.NeededLaws.{least_for, EachFits, Tiled};
 ghost use Rattle.labels.specs.Forms.{format_for};
 ghost use Rattle.extents.specs.Cursors.{legal_at, standing};
 ghost use Rattle.layout.specs.Room.{Sized};

@@ -41,7 +41,7 @@ use Rattle.promises.proofs.Promises.{salvage_promise}
 use Rattle.promises.proofs.Writing.WritingPromises.{reads}
 use Rattle.promises.proofs.Salvage.PlainFailed.{FirstGone, ReadUpTo, plain_up_to}
 use Rattle.promises.proofs.Writing.WrittenHeard.{written_heard}
-use Rattle.promises.proofs.Writing.NeededLaws.{needed_from, spread_to}
+use Rattle.promises.specs.Writing.NeededLaws.{needed_from, spread_to}
 
 -- a sector of 128 bytes with a valid mark: some bytes, and spaces behind them
 abbrev sector : List ℕ → List ℕ

@@ -7,3 +7,4 @@ pub mod PackedRecords
 pub mod AlikeLabels
 pub mod DataEnds
 pub mod StoreLaws
+pub mod NeededLaws

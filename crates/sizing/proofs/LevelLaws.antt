@@ -19,7 +19,8 @@ use Rattle.standard.specs.declared.Checked.TheVariants.{Passed, Stopped}
 use Rattle.promises.specs.Ground.Basics.{either, eq_or_not}
 use Rattle.promises.specs.Ground.Lists.{every_at}
 use Rattle.promises.specs.Writing.StoreLaws.{total_drop}
-use Rattle.promises.proofs.Writing.NeededLaws.{Level as LevelOf, level_of, placed_whole, spread_to, least_for, placed_spanned, placed, level_from, level_next, least_most, six_left, FitsIn, EachFits}
+use Rattle.promises.specs.Writing.NeededLaws.{Level as LevelOf, level_of, placed_whole, spread_to, least_for, placed_spanned, placed, level_from, FitsIn, EachFits}
+use Rattle.promises.proofs.Writing.NeededLaws.{level_next, least_most, six_left}
 use Rattle.sizing.specs.Lists.{wrong_from, Stands}
 use Rattle.sizing.specs.declared.Level.{Level}
 

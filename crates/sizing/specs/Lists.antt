@@ -6,7 +6,7 @@ use Rattle.standard.specs.Labels.{Format}
 use Rattle.standard.specs.Writing.{wrong_in}
 use Rattle.standard.specs.declared.Checked.{Checked}
 use Rattle.standard.specs.declared.Checked.TheVariants.{Passed, Stopped}
-use Rattle.promises.proofs.Writing.NeededLaws.{Level as LevelOf}
+use Rattle.promises.specs.Writing.NeededLaws.{Level as LevelOf}
 use Rattle.sizing.specs.declared.Level.{Level}
 
 -- 26 "F length not R; V length+4 over R; S length over R (R not 0000), or not 0 with B = 5", record, from 0: by the format, B and R alone

@@ -4,7 +4,7 @@
 
 ghost use Rattle.std.specs.Prelude.{◌≡◌, suc, ◌+◌, ◌<◌, ◌≤◌, eqb, length, get_or};
 ghost use Rattle.standard.specs.Writing.{total, wrong_in};
-ghost use Rattle.promises.proofs.Writing.NeededLaws.{placed_whole, spread_to, least_for, placed_spanned, placed, level_from, FitsIn, EachFits};
+ghost use Rattle.promises.specs.Writing.NeededLaws.{placed_whole, spread_to, least_for, placed_spanned, placed, level_from, FitsIn, EachFits};
 ghost use Rattle.labels.specs.Forms.{format_for};
 ghost use Rattle.sizing.specs.Lists.{wrong_from, Stands};
 

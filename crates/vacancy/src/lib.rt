@@ -130,7 +130,7 @@ fn run_among(g: Geometry, image: &[u8], starts: &[u32; 45], ends: &[u32; 45], n:
 {
     let all = addresses(g);
     let mut start = 0;
-    while n <= minus(all, start) {
+    'passes: while n <= minus(all, start) {
         let next = past_all(starts, ends, slot_count(g), n, start);
         if next == start {
             return Run::RunAt(start);

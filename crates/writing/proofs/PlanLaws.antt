@@ -25,7 +25,8 @@ use Rattle.promises.specs.Volumes.Judging.{order_append, else_both, not_given}
 use Rattle.promises.specs.Volumes.LabelRules.{Rules, label_rules}
 use Rattle.promises.specs.Volumes.VolumeNumbers.{numbers_of_lem}
 use Rattle.promises.specs.Extents.FullBlocks.{block_low}
-use Rattle.promises.proofs.Writing.NeededLaws.{level_from, EachFits, each_fits, unused_counted, needed_level_is}
+use Rattle.promises.specs.Writing.NeededLaws.{level_from, EachFits}
+use Rattle.promises.proofs.Writing.NeededLaws.{each_fits, unused_counted, needed_level_is}
 use Rattle.labels.specs.Forms.{form_in, format_for, format_back}
 use Rattle.labels.specs.declared.Form.{Form}
 use Rattle.extents.specs.Cursors.{good_from}

@@ -31,7 +31,8 @@ use Rattle.promises.specs.Extents.FullBlocks.{records_few}
 use Rattle.promises.specs.Writing.PackedRecords.{Sized as SizedBlocks}
 use Rattle.promises.proofs.Writing.StoredBlocks.{sizes_fitting}
 use Rattle.promises.proofs.Writing.WrittenLabel.{old_rules, packing_right, records_some}
-use Rattle.promises.proofs.Writing.NeededLaws.{EachFits, each_fits, Tiled, tiled}
+use Rattle.promises.specs.Writing.NeededLaws.{EachFits, Tiled}
+use Rattle.promises.proofs.Writing.NeededLaws.{each_fits, tiled}
 use Rattle.promises.specs.Extents.ExtentAddresses.{good_legal}
 use Rattle.labels.specs.declared.Form.TheVariants.{Fixed}
 use Rattle.labels.specs.Forms.{form_in, format_for, format_back}

@@ -11,7 +11,7 @@ use Rattle.standard.specs.declared.Geometry.{Geometry}
 use Rattle.standard.specs.declared.Checked.{Checked}
 use Rattle.standard.specs.declared.Checked.TheVariants.{Passed, Stopped}
 use Rattle.standard.specs.declared.Judged.TheVariants.{Volume}
-use Rattle.promises.proofs.Writing.NeededLaws.{Level, level_from}
+use Rattle.promises.specs.Writing.NeededLaws.{Level, level_from}
 use Rattle.labels.specs.Forms.{form_in}
 use Rattle.extents.specs.declared.Condition.{Condition}
 use Rattle.extents.specs.declared.Condition.TheVariants.{Wrong, Whole, Holed}

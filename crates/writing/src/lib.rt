@@ -10,7 +10,7 @@ ghost use Rattle.standard.specs.Slots.{has_label};
 ghost use Rattle.standard.specs.Files.{addresses_from};
 ghost use Rattle.standard.specs.Judgement.{judged};
 ghost use Rattle.standard.specs.Writing.{total, packing, image_with, written, image_after};
-ghost use Rattle.promises.proofs.Writing.NeededLaws.{EachFits};
+ghost use Rattle.promises.specs.Writing.NeededLaws.{EachFits};
 ghost use Rattle.labels.specs.Forms.{format_for};
 ghost use Rattle.extents.specs.Cursors.{legal_at, good_from};
 ghost use Rattle.files.specs.Numbers.{numbers_of};

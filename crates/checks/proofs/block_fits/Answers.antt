@@ -1,4 +1,4 @@
--- `block_fits` meets its contract: the parts, written out; P-as-D is D-as-P.
+-- `block_fits` meets its contract: the parts, written out; P·D is D·P.
 -- Assumes nothing.
 use native.Mathlib.Nat.{mul_comm}
 use Rattle.checks.specs.Parts.{block_fits}

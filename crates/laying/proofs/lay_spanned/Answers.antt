@@ -2,7 +2,7 @@
 -- Assumes nothing.
 use Prim.Native.Nat.{ℕ, ◌≤◌}
 use mathlib.Core.Path.{subst}
-use Rattle.promises.proofs.Writing.NeededLaws.{least_for}
+use Rattle.promises.specs.Writing.NeededLaws.{least_for}
 use Rattle.laying.proofs.DeskLaws.{room_ready, spanned_laid}
 use Rattle.laying.proofs.lay_spanned.Goals as goal
 

@@ -4,7 +4,7 @@ use mathlib.Core.Path.{◌≡◌}
 use mathlib.Core.List.{List}
 use lib.ListN.{length}
 use Rattle.standard.specs.Packing.{Laid}
-use Rattle.promises.proofs.Writing.NeededLaws.{least_for}
+use Rattle.promises.specs.Writing.NeededLaws.{least_for}
 use Rattle.filling.specs.Poured.{Placed}
 use Rattle.laying.proofs.DeskLaws.{Left}
 use Rattle.laying.proofs.spread.Given as goal

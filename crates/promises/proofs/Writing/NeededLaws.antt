@@ -1,6 +1,6 @@
 -- HOW MANY BLOCKS A WRITE NEEDS, AND U: counted from the lengths alone, and how large the number of blocks can be.
 -- Assumes nothing.
-use Rattle.std.specs.Prelude.{ℕ, zero, suc, ◌+◌, ◌-◌, ◌*◌, ◌/◌, ◌<◌, ◌≤◌, ◌≡◌, refl, Bool, true, false, cond, not, ◌&&◌, List, [], ◌∷◌, ◌++◌, map, length, get_or, drop, leb, ltb, eqb}
+use Rattle.std.specs.Prelude.{ℕ, zero, suc, ◌+◌, ◌-◌, ◌<◌, ◌≤◌, ◌≡◌, refl, Bool, true, false, cond, not, ◌&&◌, List, [], ◌∷◌, ◌++◌, map, length, get_or, drop, leb, ltb, eqb}
 use Rattle.std.proofs.Common.{sym, ◌∙◌, map-id, length-drop, drop-cons, arith, add-one, le_refl, not-suc-le-zero, div-add-mod', leb-true, leb-false, ltb-false, le-leb, eqb-true}
 use Rattle.std.proofs.Math.Path.{ap, subst}
 use Rattle.std.proofs.lemmas.Bool.{lt-leb, not-false}
@@ -18,50 +18,7 @@ use Rattle.promises.specs.Writing.WritingLaws.{record_v_length, within_v}
 use Rattle.promises.specs.Writing.PackedRecords.{six_fits}
 use Rattle.promises.proofs.Writing.WritingPromises.{parted_lengths}
 use Rattle.promises.specs.Ground.Lists.{Every}
-
--- Where a writer stands: the room left in the current block, and the blocks begun.
-pub record Level : Type 0 where
-  pub room : ℕ
-  pub blocks : ℕ
-
-abbrev pub level_of : ℕ → ℕ → Level
-level_of room blocks = record { room = room; blocks = blocks }
-
--- F and V blocked, n bytes with the control word: "into the current block if it fits, else the next"
-abbrev pub placed_whole : ℕ → ℕ → ℕ → ℕ → Level
-placed_whole B room blocks n = cond (leb n room) (level_of (room - n) blocks) (level_of (B - n) (suc blocks))
-
--- S, n bytes of a body that are left: a segment "takes what fits, and goes on in the next block". The first argument bounds the number of blocks.
-unfoldable pub spread_to : ℕ → ℕ → ℕ → ℕ → ℕ → Level
-spread_to zero B room blocks n = level_of room blocks
-spread_to (suc k) B room blocks n = cond (leb (5 + n) room) (level_of (room - (5 + n)) blocks) (spread_to k B B (suc blocks) (n - (room - 5)))
-
--- "a segment starts where 6 bytes are left (5 for an empty record)"
-abbrev pub least_for : ℕ → ℕ
-least_for zero = 5
-least_for (suc n) = 6
-
-abbrev pub placed_spanned : ℕ → ℕ → ℕ → ℕ → Level
-placed_spanned B room blocks n = cond (leb (least_for n) room) (spread_to (suc n) B room blocks n) (spread_to (suc n) B B (suc blocks) n)
-
--- one record with a body of n bytes. "V unblocked: one to a block"
-abbrev pub placed : Format → Bool → ℕ → ℕ → ℕ → ℕ → Level
-placed fixed blocked B room blocks n = placed_whole B room blocks n
-placed variable true B room blocks n = placed_whole B room blocks (4 + n)
-placed variable false B room blocks n = level_of 0 (suc blocks)
-placed spanned blocked B room blocks n = placed_spanned B room blocks n
-
--- THE COUNT OVER THE LENGTHS ALONE: the blocks begun when every record is laid
-unfoldable pub needed_from : Format → Bool → ℕ → ℕ → ℕ → List ℕ → ℕ
-needed_from f bl B room blocks [] = blocks
-needed_from f bl B room blocks (n ∷ lengths) =
-    needed_from f bl B (placed f bl B room blocks n).room (placed f bl B room blocks n).blocks lengths
-
--- ---- one more length, and a part after another: where the writer stands after some lengths
-unfoldable pub level_from : Format → Bool → ℕ → ℕ → ℕ → List ℕ → Level
-level_from f bl B room blocks [] = level_of room blocks
-level_from f bl B room blocks (n ∷ lengths) =
-    level_from f bl B (placed f bl B room blocks n).room (placed f bl B room blocks n).blocks lengths
+use Rattle.promises.specs.Writing.NeededLaws.{Level, level_of, placed, placed_whole, spread_to, least_for, placed_spanned, needed_from, level_from, FitsIn, EachFits, Tiled}
 
 pub needed_level : (f : Format) (bl : Bool) (B room blocks : ℕ) (lengths : List ℕ) → needed_from f bl B room blocks lengths ≡ (level_from f bl B room blocks lengths).blocks
 unfolding needed_from level_from
@@ -208,15 +165,6 @@ lay_s_level bl B (x ∷ xs) room blocks =
         ∙ spread_level B (λ r. lay_s B r xs) (suc (length x)) false B (suc blocks) x
         ∙ ih l.room l.blocks
 
--- ---- what refusals 25 and 26, and the label's rules, leave: every record can be laid
-abbrev pub FitsIn : Format → ℕ → ℕ → Type 0
-FitsIn fixed B n = (1 ≤ n) × (n ≤ B)
-FitsIn variable B n = 4 + n ≤ B
-FitsIn spanned B n = least_for n ≤ B
-
-abbrev pub EachFits : Format → ℕ → List ℕ → Type 0
-EachFits f B lengths = Every (FitsIn f B) lengths
-
 least_fits : (B : ℕ) → 5 ≤ B → (n : ℕ) → (eqb B 5 && not (eqb n 0)) ≡ false → least_for n ≤ B
 least_fits B l zero e = l
 least_fits B l (suc n) e = six_fits B n l e
@@ -241,13 +189,6 @@ each_fits g h r i (n ∷ lengths) p = (
   one_fits g h r (shape h r.r40) n (stop_first (wrong_length h n) _ (lengths_from h (i + 1) lengths) p),
   each_fits g h r (i + 1) lengths (stop_rest (wrong_length h n) (refuse 26 i) (lengths_from h (i + 1) lengths) p),
 )
-
--- F: every record has R bytes, "a divisor of B"
-pub record Tiled (R B : ℕ) (lengths : List ℕ) : Type 0 where
-  pub some : 1 ≤ R
-  pub high : R ≤ B
-  pub whole : B ≡ B / R * R
-  pub each : Every (λ n. n ≡ R) lengths
 
 lengths_r : (h : List ℕ) → format_of h ≡ fixed → (i : ℕ) (lengths : List ℕ) → lengths_from h i lengths ≡ Passed → Every (λ n. n ≡ record_length h) lengths
 unfolding lengths_from wrong_length

@@ -22,7 +22,7 @@ use Rattle.promises.specs.Volumes.AcceptedLaws.{has_slot}
 use Rattle.promises.specs.Volumes.VolumeNumbers.{numbers_of_lem}
 use Rattle.promises.specs.Volumes.IndexLaws.{SameViews, same_has_label, index_views, index_label, index_judged}
 
--- THE INDEX CYLINDER AS BYTES: its sectors are the first S-as-I-129 bytes
+-- THE INDEX CYLINDER AS BYTES: its sectors are the first S·I·129 bytes
 index_sector : (g : Geometry) (image : List ℕ) (n : ℕ) → n < index_sectors g → sector_at g (take (index_sectors g * 129) image) n ≡ sector_at g image n
 unfolding sector_at body_size kind_offset
 index_sector g image n h = rw (lt-ltb n (index_sectors g) h) (part_front 129 (n * 129) (index_sectors g * 129) image (omega arith))

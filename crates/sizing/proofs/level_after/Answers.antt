@@ -3,7 +3,7 @@
 use mathlib.Core.Path.{refl, sym, subst, ◌∙◌}
 use native.Mathlib.Omega.{arith}
 use Rattle.promises.specs.Writing.StoreLaws.{total_drop}
-use Rattle.promises.proofs.Writing.NeededLaws.{FitsIn}
+use Rattle.promises.specs.Writing.NeededLaws.{FitsIn}
 use Rattle.labels.specs.Forms.{format_for}
 use Rattle.sizing.proofs.LevelLaws.{level_to, level_none, fits_at, stands_as}
 use Rattle.sizing.proofs.level_after.Goals as goal

@@ -3,7 +3,7 @@ use Prim.Native.Nat.{◌+◌, ◌-◌, ◌<◌, ◌≤◌}
 use mathlib.Core.Path.{◌≡◌}
 use lib.ListN.{length, drop}
 use Rattle.standard.specs.Writing.{total}
-use Rattle.promises.proofs.Writing.NeededLaws.{level_from}
+use Rattle.promises.specs.Writing.NeededLaws.{level_from}
 use Rattle.labels.specs.Forms.{format_for}
 use Rattle.sizing.proofs.level_after.Given as goal
 

@@ -6,7 +6,7 @@ use mathlib.Core.Bool.{Bool}
 use native.Mathlib.Omega.{arith}
 use native.Mathlib.Numerals.{add-one}
 use Rattle.standard.specs.Labels.{fixed, variable, spanned}
-use Rattle.promises.proofs.Writing.NeededLaws.{placed, FitsIn}
+use Rattle.promises.specs.Writing.NeededLaws.{placed, FitsIn}
 use Rattle.labels.specs.Forms.{format_for}
 use Rattle.labels.specs.declared.Form.{Form}
 use Rattle.sizing.proofs.LevelLaws.{stands_as}

@@ -4,7 +4,7 @@ use Prim.Native.Nat.{ℕ, suc}
 use mathlib.Core.Path.{sym, ap, ◌∙◌}
 use native.Mathlib.Omega.{arith}
 use native.Mathlib.Numerals.{add-one}
-use Rattle.promises.proofs.Writing.NeededLaws.{spread_to}
+use Rattle.promises.specs.Writing.NeededLaws.{spread_to}
 use Rattle.sizing.proofs.LevelLaws.{spanned_here, spanned_after, stands_as}
 use Rattle.sizing.proofs.place_spanned.Goals as goal
 

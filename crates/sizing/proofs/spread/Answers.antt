@@ -4,7 +4,8 @@ use Prim.Native.Nat.{ℕ, suc, ◌+◌, ◌-◌}
 use mathlib.Core.Path.{refl, sym, ap, ◌∙◌}
 use native.Mathlib.Omega.{arith}
 use native.Mathlib.Numerals.{add-one}
-use Rattle.promises.proofs.Writing.NeededLaws.{spread_to, spread_ends, spread_goes_on}
+use Rattle.promises.specs.Writing.NeededLaws.{spread_to}
+use Rattle.promises.proofs.Writing.NeededLaws.{spread_ends, spread_goes_on}
 use Rattle.sizing.proofs.LevelLaws.{takes_one, stands_as}
 use Rattle.sizing.proofs.spread.Goals as goal
 

@@ -1,7 +1,7 @@
 -- A body over the blocks: where the writer stands at the end is the same from every block on.
 use Prim.Native.Nat.{suc, ◌+◌, ◌<◌, ◌≤◌}
 use mathlib.Core.Path.{◌≡◌}
-use Rattle.promises.proofs.Writing.NeededLaws.{spread_to, least_for}
+use Rattle.promises.specs.Writing.NeededLaws.{spread_to, least_for}
 use Rattle.sizing.proofs.spread.Given as goal
 
 abbrev pub invariant-loop-room : goal.invariant-loop-room

@@ -15,8 +15,8 @@ use Rattle.vacancy.proofs.run_among.Goals as goal
 passed : (starts ends : List ℕ) (n start : ℕ) {r k m : ℕ} → r ≡ past_all starts ends n k 0 start → k ≡ m → r ≡ past_all starts ends n m 0 start
 passed starts ends n start p q = p ∙ ap (λ (k : ℕ). past_all starts ends n k 0 start) q
 
-pub loop-g-init : goal.loop-g-init
-loop-g-init c = (omega arith, room_start _ _ _)
+pub passes-init : goal.passes-init
+passes-init c = (omega arith, room_start _ _ _)
 
 pub past_all-next-requires : goal.past_all-next-requires
 past_all-next-requires c =
@@ -25,23 +25,23 @@ past_all-next-requires c =
 pub returns-then-next-start : goal.returns-then-next-start
 returns-then-next-start c =
     let a = c.args in
-    let w = c.loop-g in
+    let w = c.passes in
     sym (pass_found a.image.now a.g c.requires.0 a.starts.now a.ends.now c.requires.2 a.n c.requires.1 (omega arith) w.start (omega arith) (sym (passed a.starts.now a.ends.now a.n w.start c.past_all-next.ensures.0 c.slot_count.ensures.0) ∙ omega arith) w.invariant.1)
 
-pub loop-g-smaller : goal.loop-g-smaller
-loop-g-smaller c =
+pub passes-smaller : goal.passes-smaller
+passes-smaller c =
     let a = c.args in
-    let w = c.loop-g in
+    let w = c.passes in
     omega (arith, passed a.starts.now a.ends.now a.n w.start c.past_all-next.ensures.0 c.slot_count.ensures.0, pass_onward a.starts.now a.ends.now a.n (slot_count a.g) 0 w.start)
 
-pub loop-g-preserved : goal.loop-g-preserved
-loop-g-preserved c =
+pub passes-preserved : goal.passes-preserved
+passes-preserved c =
     let a = c.args in
-    let w = c.loop-g in (
+    let w = c.passes in (
       omega arith,
       subst (Searched a.g a.image.now a.n) (sym (passed a.starts.now a.ends.now a.n w.start c.past_all-next.ensures.0 c.slot_count.ensures.0))
           (pass_searched a.image.now a.g c.requires.0 a.starts.now a.ends.now c.requires.2 a.n c.requires.1 (omega arith) (slot_count a.g) 0 w.start (omega arith) w.invariant.1),
     )
 
 pub returns : goal.returns
-returns c = sym (room_full _ _ _ c.loop-g.start (omega arith) c.loop-g.invariant.1)
+returns c = sym (room_full _ _ _ c.passes.start (omega arith) c.passes.invariant.1)

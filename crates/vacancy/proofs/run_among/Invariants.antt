@@ -3,8 +3,8 @@ use Prim.Native.Nat.{◌-◌, ◌≤◌}
 use Rattle.promises.specs.Making.RunsFree.{Searched}
 use Rattle.vacancy.proofs.run_among.Given as goal
 
-abbrev pub invariant-loop-g : goal.invariant-loop-g
-invariant-loop-g l = (l.start ≤ 4294967296) × Searched l.g l.image l.n l.start
+abbrev pub invariant-passes : goal.invariant-passes
+invariant-passes l = (l.start ≤ 4294967296) × Searched l.g l.image l.n l.start
 
-abbrev pub decreases-loop-g : goal.decreases-loop-g
-decreases-loop-g l = l.all - l.start
+abbrev pub decreases-passes : goal.decreases-passes
+decreases-passes l = l.all - l.start

@@ -7,7 +7,7 @@ use lib.ListN.{length}
 use native.Mathlib.Omega.{arith}
 use Rattle.standard.specs.Labels.{format_of, block_length}
 use Rattle.promises.specs.Volumes.VolumeNumbers.{numbers_of_lem}
-use Rattle.promises.proofs.Writing.NeededLaws.{EachFits}
+use Rattle.promises.specs.Writing.NeededLaws.{EachFits}
 use Rattle.labels.specs.Forms.{form_in}
 use Rattle.files.specs.Numbers.{numbers_of}
 use Rattle.files.proofs.Accepted.{ready}
