@@ -1,3 +1,4 @@
+-- What rests on definitions that a must-fail change turns, and so stands here; the map is in specs/Lib. Folders have their pages as there.
 pub mod Images
 pub mod Volumes
 pub mod Extents
@@ -10,6 +11,7 @@ pub mod Refusals
 pub mod Bounds
 pub mod Making
 pub mod Unseen
+-- The promises at the image; the demands; the requests; and that they hold of something.
 pub mod Promises
 pub mod Demands
 pub mod Requested

@@ -1,1 +1,0 @@
--- What no answer hangs on. "Kind 32+k: check failed, body not trusted"; "sectors 01-04 and 06 are not judged beyond kind"; of VOL1 and ERMAP, "all other positions are
