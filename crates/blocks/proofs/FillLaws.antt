@@ -1,14 +1,14 @@
 -- Fill in runs: of the image, byte by byte, and of what is ahead of a cursor, record by record.
 -- Assumes nothing.
-use Prim.Native.Nat.{ℕ, suc, zero, ◌+◌, ◌-◌, ◌<◌, ◌≤◌}
+use Prim.Native.Nat.{ℕ, ◌+◌, ◌-◌, ◌<◌, ◌≤◌}
 use mathlib.Core.Path.{◌≡◌, refl, sym, ap, ◌∙◌}
-use mathlib.Core.Bool.{Bool, true, false, ◌&&◌, and-true}
+use mathlib.Core.Bool.{Bool, true, false, ◌&&◌}
 use mathlib.Core.List.{List, [], ◌∷◌, ◌++◌}
-use lib.ListN.{get_or, take, drop, length}
-use lib.Seq.{take-add, drop-drop, get_or-drop, take-nil}
+use lib.ListN.{take, drop, length}
+use lib.Seq.{take-add, take-nil}
 use lib.Dec.{eqb}
 use native.Mathlib.Omega.{arith}
-use borrow.Author.Tests.{eq-eqb, ne_eqb}
+use Rattle.std.specs.List.{list_all}
 use Rattle.standard.specs.Layout.{body_offset, image_length}
 use Rattle.standard.specs.Addresses.{ordinal}
 use Rattle.standard.specs.Pieces.{is_fill}
@@ -38,29 +38,10 @@ fill_on k n s l h = sym (fill_split k n s l ∙ ap (λ (t : Bool). t && is_fill 
 pub fill_not : (k n : ℕ) (s : List ℕ) → k ≤ n → is_fill (take k s) ≡ false → is_fill (take n s) ≡ false
 fill_not k n s l h = fill_split k n s l ∙ ap (λ (t : Bool). t && is_fill (take (n - k) (drop k s))) h
 
--- one byte of a run of the image, from i to `to`
-one_fill : (s : List ℕ) → is_fill (take 1 s) ≡ eqb (get_or s 0 0) 0
-one_fill [] = refl
-one_fill (x ∷ s) = and-true (eqb x 0)
-
-at_i : (s : List ℕ) (i : ℕ) → is_fill (take 1 (drop i s)) ≡ eqb (get_or s i 0) 0
-at_i s i =
-    let z : i + 0 ≡ i = omega arith in
-    one_fill (drop i s) ∙ (ap (λ (b : ℕ). eqb b 0) (get_or-drop i s 0 0) ∙ ap (λ (k : ℕ). eqb (get_or s k 0) 0) z)
-
-pub byte_on : (s : List ℕ) (i to b : ℕ) → i < to → b ≡ get_or s i 0 → b ≡ 0 → is_fill (take (to - (i + 1)) (drop (i + 1) s)) ≡ is_fill (take (to - i) (drop i s))
-byte_on s i to b l e z =
-    let m : to - (i + 1) ≡ to - i - 1 = omega arith in
-    ap (λ (k : ℕ). is_fill (take k (drop (i + 1) s))) m
-    ∙ (ap (λ (u : List ℕ). is_fill (take (to - i - 1) u)) (sym (drop-drop 1 i s))
-    ∙ fill_on 1 (to - i) (drop i s) (omega arith) (at_i s i ∙ eq-eqb (get_or s i 0) 0 (sym e ∙ z)))
-
-pub byte_not : (s : List ℕ) (i to b : ℕ) → i < to → b ≡ get_or s i 0 → (b ≡ 0 → ⊥) → is_fill (take (to - i) (drop i s)) ≡ false
-byte_not s i to b l e z = fill_not 1 (to - i) (drop i s) (omega arith) (at_i s i ∙ ne_eqb (get_or s i 0) 0 (λ (q : get_or s i 0 ≡ 0). z (e ∙ q)))
-
-pub none_left : (n : ℕ) (s : List ℕ) → n ≤ 0 → is_fill (take n s) ≡ true
-none_left zero s l = refl
-none_left (suc n) s l = absurd (omega arith)
+-- what `all` says of a run's bytes
+pub all_zero : (s : List ℕ) → list_all (λ b. eqb b 0) s ≡ is_fill s
+all_zero [] = refl
+all_zero (x ∷ s) = ap (λ (t : Bool). eqb x 0 && t) (all_zero s)
 
 pub none_there : (n : ℕ) → is_fill (take n []) ≡ true
 none_there n = ap is_fill (take-nil n)

@@ -25,7 +25,6 @@ use Rattle.extents.specs.declared.Cursor.{Cursor}
 use Rattle.extents.proofs.CursorLaws.{legal_head}
 use Rattle.layout.specs.Room.{Sized}
 use Rattle.blocks.specs.Streams.{stream, five_of}
-use Rattle.blocks.specs.declared.Five.{Five}
 
 -- the records ahead of a cursor are legal
 legal_all : (g : Geometry) (left : ℕ) (a : Address) → legal_on g left a ≡ true → Every (Legal g) (addresses_from g left a)
@@ -144,21 +143,20 @@ unfolding stream
 stream_in g image c i k = sym (drop-drop k i (bytes_of g image (standing g image c)))
 
 -- five bytes, one by one
-abbrev five : ℕ → ℕ → ℕ → ℕ → ℕ → Five
-five a b c d e = record { a = a; b = b; c = c; d = d; e = e }
+abbrev five : ℕ → ℕ → ℕ → ℕ → ℕ → List ℕ
+five a b c d e = a ∷ b ∷ c ∷ d ∷ e ∷ []
 
 pub five_by : (s : List ℕ) (a b c d e : ℕ) → a ≡ get_or s 0 0 → b ≡ get_or s 1 0 → c ≡ get_or s 2 0 → d ≡ get_or s 3 0 → e ≡ get_or s 4 0
     → five a b c d e ≡ five_of s
 unfolding five_of
 five_by s a b c d e p q r t u = rw (p, q, r, t, u)
 
-pub five_drop : (s : List ℕ) (o a b c d e : ℕ) → a ≡ get_or s o 0 → b ≡ get_or s (o + 1) 0 → c ≡ get_or s (o + 2) 0 → d ≡ get_or s (o + 3) 0 → e ≡ get_or s (o + 4) 0
-    → five a b c d e ≡ five_of (drop o s)
-five_drop s o a b c d e p q r t u =
+pub five_drop : (s : List ℕ) (o : ℕ) → five (get_or s o 0) (get_or s (o + 1) 0) (get_or s (o + 2) 0) (get_or s (o + 3) 0) (get_or s (o + 4) 0) ≡ five_of (drop o s)
+five_drop s o =
     let z : o + 0 ≡ o = omega arith in
-    five_by (drop o s) a b c d e
-    (p ∙ sym (get_or-drop o s 0 0 ∙ ap (λ (k : ℕ). get_or s k 0) z))
-    (q ∙ sym (get_or-drop o s 1 0))
-    (r ∙ sym (get_or-drop o s 2 0))
-    (t ∙ sym (get_or-drop o s 3 0))
-    (u ∙ sym (get_or-drop o s 4 0))
+    five_by (drop o s) _ _ _ _ _
+    (sym (get_or-drop o s 0 0 ∙ ap (λ (k : ℕ). get_or s k 0) z))
+    (sym (get_or-drop o s 1 0))
+    (sym (get_or-drop o s 2 0))
+    (sym (get_or-drop o s 3 0))
+    (sym (get_or-drop o s 4 0))

@@ -5,34 +5,83 @@
 
 ghost use Rattle.std.specs.Prelude.{◌≡◌, true, ◌+◌, ◌<◌, ◌≤◌, length, get_or, take, drop};
 ghost use Rattle.std.proofs.Math.Seq.{paste};
-ghost use Rattle.standard.specs.Layout.{kind_offset, body_offset};
+ghost use Rattle.standard.specs.Layout.{body_offset};
 ghost use Rattle.standard.specs.Addresses.{ordinal};
-ghost use Rattle.standard.specs.Pieces.{is_fill};
+ghost use Rattle.standard.specs.Packing.{role_byte};
+ghost use Rattle.standard.specs.Pieces.{is_fill, role_of};
 ghost use Rattle.standard.specs.Files.{any_failed};
-ghost use Rattle.extents.specs.Cursors.{legal_at, good_from, standing};
+ghost use Rattle.extents.specs.Cursors.{legal_at, good_from, standing, Walks};
 ghost use Rattle.layout.specs.Room.{Sized};
 ghost use Rattle.blocks.specs.Streams.{stream, five_of};
+ghost use Rattle.blocks.specs.Roles.{role_for, perhaps_role, begins_by, completes_by};
 
-use extents::{Cursor, is_defective, next_good, one_unless, skip_good};
-use fields::{copy_run, wide16};
-use layout::{check_failed, kind_after, kind_of};
-use standard::{Geometry, byte_at, wide};
+use extents::{Cursor, Walk, is_defective, next_good, skip_good};
+use fields::copy_run;
+use layout::{check_failed, kind_of};
+use standard::{Geometry, byte_at};
+
+// What a segment is to its record: `0` the whole, `1` the first part, `2` one between, `3` the last. A record of F or V is a whole.
+#[derive(Clone, Copy, PartialEq, Eq)]
+pub enum Role {
+    Whole,
+    First,
+    Middle,
+    Last,
+}
+
+impl Role {
+    // "`0`-`3`"
+    #[tactic(auto, unfolding(standard::specs::Pieces::role_of))]
+    pub fn read(c: u8) -> Option<Role>
+        ensures { result ≡ perhaps_role (role_of c) }
+    {
+        match c {
+            b'0' => Some(Role::Whole),
+            b'1' => Some(Role::First),
+            b'2' => Some(Role::Middle),
+            b'3' => Some(Role::Last),
+            _ => None,
+        }
+    }
+
+    // The same as a number, 0 to 3.
+    pub fn digit(self) -> u64
+        ensures { (48 + result ≡ role_byte (role_for self)) × (result < 4) }
+    {
+        match self {
+            Role::Whole => 0,
+            Role::First => 1,
+            Role::Middle => 2,
+            Role::Last => 3,
+        }
+    }
+
+    // Whether a record begins with it: "0 or 1".
+    pub fn begins(self) -> bool
+        ensures { result ≡ begins_by self }
+    {
+        match self {
+            Role::Whole | Role::First => true,
+            Role::Middle | Role::Last => false,
+        }
+    }
+
+    // Whether it is the last of its record: "After 1 or 2" the record goes on in the next block.
+    pub fn completes(self) -> bool
+        ensures { result ≡ completes_by self }
+    {
+        match self {
+            Role::Whole | Role::Last => true,
+            Role::First | Role::Middle => false,
+        }
+    }
+}
 
 // A cursor in an extent, and a byte of the record under it.
 #[derive(Clone, Copy)]
 pub struct Spot {
     pub c: Cursor,
     pub i: u64,
-}
-
-// Five bytes: as many as a control word has at most.
-#[derive(Clone, Copy)]
-pub struct Five {
-    pub a: u64,
-    pub b: u64,
-    pub c: u64,
-    pub d: u64,
-    pub e: u64,
 }
 
 // Where byte i of the record under a cursor is in the image. "Each is one byte of kind, then a body."
@@ -59,10 +108,10 @@ pub fn onward(g: Geometry, image: &[u8], c: Cursor, i: u64, k: u64) -> Spot
     requires { (Sized g image.now) × (legal_at g c ≡ true) × (i < 4294967296) × (k < 4294967296) }
     ensures { (stream g image.now result.c result.i ≡ drop k (stream g image.now c i)) × (legal_at g result.c ≡ true) × (result.i < g.P) × (result.c.left ≤ c.left) }
 {
-    let p = wide16(g.P);
+    let p = u64::from(g.P);
     let to = i + k;
     if to < p {
-        return Spot { c: c, i: to };
+        return Spot { c, i: to };
     }
     let n = to / p;
     let d = skip_good(g, image, c, n);
@@ -78,38 +127,38 @@ fn peek(g: Geometry, image: &[u8], c: Cursor, i: u64, k: u64) -> u64
     here(g, image, s.c, s.i)
 }
 
-// Five bytes of the image.
-fn five_at(image: &[u8], o: usize) -> Five
+// Five bytes of the image: as many as a control word has at most.
+fn five_at(image: &[u8], o: usize) -> [u8; 5]
     requires { o + 5 ≤ length image.now }
-    ensures { (result ≡ five_of (drop o image.now)) × (result.a < 256) × (result.b < 256) × (result.c < 256) × (result.d < 256) × (result.e < 256) }
+    ensures { result ≡ five_of (drop o image.now) }
 {
-    Five {
-        a: wide(image[o]),
-        b: wide(image[o + 1]),
-        c: wide(image[o + 2]),
-        d: wide(image[o + 3]),
-        e: wide(image[o + 4]),
-    }
+    [
+        image[o],
+        image[o + 1],
+        image[o + 2],
+        image[o + 3],
+        image[o + 4],
+    ]
 }
 
 // The first five bytes from a spot on: in one run where they stand in one record, else byte by byte.
-pub fn first_five(g: Geometry, image: &[u8], c: Cursor, i: u64) -> Five
+pub fn first_five(g: Geometry, image: &[u8], c: Cursor, i: u64) -> [u8; 5]
     requires { (Sized g image.now) × (legal_at g c ≡ true) × (i < g.P) }
-    ensures { (result ≡ five_of (stream g image.now c i)) × (result.a < 256) × (result.b < 256) × (result.c < 256) × (result.d < 256) × (result.e < 256) }
+    ensures { result ≡ five_of (stream g image.now c i) }
 {
-    let p = wide16(g.P);
+    let p = u64::from(g.P);
     if 0 < c.left {
         if i + 5 <= p {
             return five_at(image, byte_offset(g, c, i) as usize);
         }
     }
-    Five {
-        a: peek(g, image, c, i, 0),
-        b: peek(g, image, c, i, 1),
-        c: peek(g, image, c, i, 2),
-        d: peek(g, image, c, i, 3),
-        e: peek(g, image, c, i, 4),
-    }
+    [
+        peek(g, image, c, i, 0) as u8,
+        peek(g, image, c, i, 1) as u8,
+        peek(g, image, c, i, 2) as u8,
+        peek(g, image, c, i, 3) as u8,
+        peek(g, image, c, i, 4) as u8,
+    ]
 }
 
 // Whether n bytes of the image are fill.
@@ -118,14 +167,7 @@ fn fill_run(image: &[u8], from: u64, n: u64) -> bool
     ensures { result ≡ is_fill (take n (drop from image.now)) }
 {
     let to = (from + n) as usize;
-    let mut i = from as usize;
-    while i < to {
-        if wide(image[i]) != 0 {
-            return false;
-        }
-        i += 1;
-    }
-    true
+    image[from as usize..to].iter().all(|&b| b == 0)
 }
 
 // "Fill is byte 00." Whether the bytes from a spot on are fill, so many as are asked or as there are: record by record, and none is walked to behind the last
@@ -134,7 +176,7 @@ pub fn all_fill(g: Geometry, image: &[u8], from: Cursor, first: u64, count: u64)
     requires { (Sized g image.now) × (legal_at g from ≡ true) × (first < g.P) × (count < 65536) }
     ensures { result ≡ is_fill (take count (stream g image.now from first)) }
 {
-    let p = wide16(g.P);
+    let p = u64::from(g.P);
     let mut c = from;
     let mut i = first;
     let mut n = count;
@@ -172,7 +214,7 @@ pub fn copy(
     if count == 0 {
         return;
     }
-    let p = wide16(g.P);
+    let p = u64::from(g.P);
     let mut c = from;
     let mut i = first;
     let mut at = to;
@@ -188,24 +230,19 @@ pub fn copy(
     copy_run(image, byte_offset(g, c, i), out, at, n);
 }
 
-// Whether one of the next m good records is check-failed, from an address on whose kind stands at `start`. One look at each record, and none behind the m-th.
-fn failed_among(g: Geometry, image: &[u8], from: Cursor, start: u64, m: u64) -> bool
-    requires { (legal_at g from ≡ true) × (start ≡ kind_offset g (ordinal g from.at)) }
+// Whether one of the next m good records is check-failed, from where a walk stands. One look at each record, and none behind the m-th.
+fn failed_among(g: Geometry, image: &[u8], from: Walk, m: u64) -> bool
+    requires { Walks g from }
     ensures { result ≡ any_failed g image.now (take m (good_from g image.now from.left from.at)) }
 {
-    let mut at = from.at;
-    let mut left = from.left;
-    let mut o = start;
+    let mut w = from;
     let mut n = m;
-    while (0 < n) & (0 < left) {
-        if check_failed(g, image, at, o) {
+    while (0 < n) & (0 < w.left) {
+        if check_failed(g, image, w.at, w.kind) {
             return true;
         }
-        n -= one_unless(is_defective(g, image, at, o));
-        let next = at.step(g);
-        o = kind_after(g, at, next, o);
-        at = next;
-        left -= 1;
+        n -= u64::from(!is_defective(g, image, w.at, w.kind));
+        w = w.step(g);
     }
     false
 }
@@ -215,25 +252,12 @@ pub fn any_failed(g: Geometry, image: &[u8], from: Cursor, m: u64) -> bool
     requires { legal_at g from ≡ true }
     ensures { result ≡ any_failed g image.now (take m (standing g image.now from)) }
 {
-    let first = from.at;
-    let left = from.left;
-    if (m == 0) | (left == 0) {
+    if (m == 0) | (from.left == 0) {
         return false;
     }
-    let start = kind_of(g, first);
-    if check_failed(g, image, first, start) {
+    let w = Walk::begin(g, from);
+    if check_failed(g, image, w.at, w.kind) {
         return true;
     }
-    let next = first.step(g);
-    let o = kind_after(g, first, next, start);
-    failed_among(
-        g,
-        image,
-        Cursor {
-            at: next,
-            left: left - 1,
-        },
-        o,
-        m - 1,
-    )
+    failed_among(g, image, w.step(g), m - 1)
 }

@@ -13,8 +13,8 @@ use Rattle.standard.specs.Addresses.{rank, before, is_address, is_data_end}
 use Rattle.standard.specs.Labels.{level, level_space, level_one, name_of, start_of, end_of, data_end_of, block_length, record_length, unused_count, rule6, rule29, rule35, rule75, spaces_or_date}
 use Rattle.standard.specs.declared.Geometry.{Geometry}
 use Rattle.fields.specs.Numbers.{perhaps}
-use Rattle.fields.specs.declared.Perhaps.{Perhaps}
-use Rattle.fields.specs.declared.Perhaps.TheVariants.{Nothing, Number}
+use Rattle.std.specs.declared.option.Option.{Option}
+use Rattle.std.specs.declared.option.Option.TheVariants.{Some, None}
 use Rattle.fields.proofs.PerhapsLaws.{test_holds, number_is, test_fails}
 use Rattle.promises.specs.Ground.Basics.{and_l, and_r}
 use Rattle.checks.specs.Parts.{blank_or}
@@ -22,12 +22,6 @@ use Rattle.checks.specs.Parts.{blank_or}
 -- tests joined
 pub either : (a b p q : Bool) → a ≡ p → b ≡ q → (a || b) ≡ (p || q)
 either a b p q h k = rw (h, k)
-
-pub or_here : (a b : Bool) → a ≡ true → true ≡ (a || b)
-or_here a b e = rw e
-
-pub or_else : (a b r : Bool) → a ≡ false → r ≡ b → r ≡ (a || b)
-or_else a b r e q = rw e q
 
 -- the name: 6-22 are 6-13 and 14-22, and a space is in the a-set
 every_both : (test : ℕ → Bool) (a b : List ℕ) → every test (a ++ b) ≡ (every test a && every test b)
@@ -91,57 +85,41 @@ module _ (g : Geometry) (h : List ℕ) where
 
 -- a field that may be blank
 module _ (blank : ℕ) (f : List ℕ) where
-  pub blank_here : spaces f ≡ true → Number blank ≡ blank_or blank f
-  unfolding blank_or
-  blank_here t = rw t
-
-  pub blank_own : (r : Perhaps) → spaces f ≡ false → r ≡ perhaps (digits f) (number f) → r ≡ blank_or blank f
-  unfolding blank_or
-  blank_own r t e = rw t e
-
-  pub blank_no : {x : Perhaps} → x ≡ Nothing → x ≡ blank_or blank f → (spaces f || digits f) ≡ false
+  pub blank_no : {x : Option ℕ} → x ≡ None → x ≡ blank_or blank f → (spaces f || digits f) ≡ false
   unfolding blank_or
   blank_no e q = go (spaces f) (sym q ∙ e)
     where
-      go : (t : Bool) → cond t (Number blank) (perhaps (digits f) (number f)) ≡ Nothing → (t || digits f) ≡ false
+      go : (t : Bool) → cond t (Some blank) (perhaps (digits f) (number f)) ≡ None → (t || digits f) ≡ false
       go true e = cc
       go false e = test_fails (digits f) (number f) e
 
-  pub blank_yes : {x : Perhaps} {m : ℕ} → x ≡ Number m → x ≡ blank_or blank f → (spaces f || digits f) ≡ true
+  pub blank_yes : {x : Option ℕ} {m : ℕ} → x ≡ Some m → x ≡ blank_or blank f → (spaces f || digits f) ≡ true
   unfolding blank_or
   blank_yes {m = m} e q = go (spaces f) (sym q ∙ e)
     where
-      go : (t : Bool) → cond t (Number blank) (perhaps (digits f) (number f)) ≡ Number m → (t || digits f) ≡ true
+      go : (t : Bool) → cond t (Some blank) (perhaps (digits f) (number f)) ≡ Some m → (t || digits f) ≡ true
       go true e = refl
       go false e = test_holds (digits f) (number f) m e
 
-  blank_is : {x : Perhaps} {m : ℕ} → x ≡ Number m → x ≡ blank_or blank f → m ≡ cond (spaces f) blank (number f)
+  blank_is : {x : Option ℕ} {m : ℕ} → x ≡ Some m → x ≡ blank_or blank f → m ≡ cond (spaces f) blank (number f)
   unfolding blank_or
   blank_is {m = m} e q = go (spaces f) (sym q ∙ e)
     where
-      go : (t : Bool) → cond t (Number blank) (perhaps (digits f) (number f)) ≡ Number m → m ≡ cond t blank (number f)
+      go : (t : Bool) → cond t (Some blank) (perhaps (digits f) (number f)) ≡ Some m → m ≡ cond t blank (number f)
       go true e = cc
       go false e = number_is (digits f) (number f) m e
 
-pub record_blank : {x : Perhaps} {m : ℕ} (h : List ℕ) (B : ℕ) → x ≡ Number m → x ≡ blank_or B (field h 54 57) → B ≡ block_length h → m ≡ record_length h
+pub record_blank : {x : Option ℕ} {m : ℕ} (h : List ℕ) (B : ℕ) → x ≡ Some m → x ≡ blank_or B (field h 54 57) → B ≡ block_length h → m ≡ record_length h
 unfolding record_length
 record_blank h B e q k = blank_is B (field h 54 57) e q ∙ ap (λ (n : ℕ). cond (spaces (field h 54 57)) n (number (field h 54 57))) k
 
-pub unused_blank : {x : Perhaps} {m : ℕ} (h : List ℕ) → x ≡ Number m → x ≡ blank_or 0 (field h 58 62) → m ≡ unused_count h
+pub unused_blank : {x : Option ℕ} {m : ℕ} (h : List ℕ) → x ≡ Some m → x ≡ blank_or 0 (field h 58 62) → m ≡ unused_count h
 unfolding unused_count
 unused_blank h e q = blank_is 0 (field h 58 62) e q
 
 -- dates
 module _ (f : List ℕ) where
-  pub date_blank : spaces f ≡ true → true ≡ spaces_or_date f
+  pub date_is : (r p q : Bool) (m d : ℕ) → spaces f ≡ false → r ≡ digits f → m ≡ number (field f 3 4) → d ≡ number (field f 5 6)
+      → p ≡ between 1 12 m → q ≡ between 1 31 d → (r && p && q) ≡ spaces_or_date f
   unfolding spaces_or_date
-  date_blank t = rw t
-
-  pub date_no : spaces f ≡ false → digits f ≡ false → false ≡ spaces_or_date f
-  unfolding spaces_or_date
-  date_no t d = rw (t, d)
-
-  pub date_is : (m d : ℕ) (p q : Bool) → spaces f ≡ false → digits f ≡ true → m ≡ number (field f 3 4) → d ≡ number (field f 5 6)
-      → p ≡ between 1 12 m → q ≡ between 1 31 d → (p && q) ≡ spaces_or_date f
-  unfolding spaces_or_date
-  date_is m d p q t u e k hp hq = rw (hp, hq, t, u, e, k)
+  date_is r p q m d t u e k hp hq = rw (hp, hq, t, u, e, k)

@@ -5,8 +5,7 @@ use Rattle.standard.specs.Characters.{bytes, byte, between, one_of, is_space, sp
 use Rattle.standard.specs.Labels.{if_so, unless_at_fault}
 use Rattle.standard.specs.declared.Geometry.{Geometry}
 use Rattle.fields.specs.Numbers.{perhaps}
-use Rattle.fields.specs.declared.Perhaps.{Perhaps}
-use Rattle.fields.specs.declared.Perhaps.TheVariants.{Number}
+use Rattle.std.specs.Prelude.{Option, Some}
 
 -- c is the character at 44, f the one at 40; a test such as right40 says whether that field is right
 
@@ -39,8 +38,8 @@ unfoldable pub blocked_right : ℕ → ℕ → ℕ → Bool
 blocked_right c f b = one_of (bytes " B") b && if_so (one_of (bytes "S") f) (eqb b (byte "B")) && if_so (eqb c (byte " ")) (is_space b)
 
 -- a field that may be blank
-unfoldable pub blank_or : ℕ → List ℕ → Perhaps
-blank_or blank f = cond (spaces f) (Number blank) (perhaps (digits f) (number f))
+unfoldable pub blank_or : ℕ → List ℕ → Option ℕ
+blank_or blank f = cond (spaces f) (Some blank) (perhaps (digits f) (number f))
 
 -- "F: 1 to B, equal to B if unblocked, else a divisor of B; level space R = B. V: 4 to B", where 23 and 40 are right
 unfoldable pub record_fits : ℕ → ℕ → Bool → Bool → ℕ → ℕ → Bool

@@ -11,10 +11,10 @@ ghost use Rattle.checks.specs.Parts.{is_other, format_right, block_least, block_
 ghost use Rattle.checks.specs.Held.{Held};
 
 use fields::{
-    Class, Perhaps, address_rank, all_of, decimal_in, if_so, in_range, is_legal, is_multiple,
-    number_2, one_of_1, one_of_2, one_of_4, past_last, rank_of, same_as, times, wide16,
+    address_rank, all_in_a_set, all_spaces, decimal_in, if_so, in_range, is_legal, is_multiple,
+    number_in, one_of, past_last, rank_of, same_as, times,
 };
-use standard::{Address, FiveDigits, Geometry, wide};
+use standard::{Address, Geometry};
 
 // What the rows up to 40 have read: the level and its verdict, the format, B, the rank of the start.
 #[derive(Clone, Copy)]
@@ -27,6 +27,7 @@ pub struct Seen {
 }
 
 // "space, 1, 2 or another a-character"
+#[tactic(auto, unfolding(crate::specs::Parts::is_other))]
 pub fn is_other(c: u64, right44: bool) -> bool
     ensures { result ≡ is_other c right44 }
 {
@@ -38,10 +39,10 @@ fn short_name(h: &[u8]) -> bool
     requires { length h.now ≡ 128 }
     ensures { result ≡ (in_a_set (name_of h.now) && spaces (field h.now 14 22)) }
 {
-    if !all_of(Class::Space, &h[13..22]) {
+    if !all_spaces(&h[13..22]) {
         return false;
     }
-    all_of(Class::Aset, &h[5..13])
+    all_in_a_set(&h[5..13])
 }
 
 // "6-22 a-set; levels space and 1 have spaces in 14-22."
@@ -52,11 +53,12 @@ pub fn name_right(h: &[u8], c: u64) -> bool
     if (c == 32) | (c == 49) {
         return short_name(h);
     }
-    all_of(Class::Aset, &h[5..22])
+    all_in_a_set(&h[5..22])
 }
 
 // "29-33 start": its rank, if it is an address.
-pub fn start_in(g: Geometry, h: &[u8]) -> Perhaps
+#[tactic(auto, unfolding(standard::specs::Labels::rule29))]
+pub fn start_in(g: Geometry, h: &[u8]) -> Option<u64>
     requires { length h.now ≡ 128 }
     ensures { result ≡ perhaps (rule29 g h.now) (rank g (start_of h.now)) }
 {
@@ -68,36 +70,38 @@ pub fn end_right(g: Geometry, h: &[u8], start: u64) -> bool
     requires { (length h.now ≡ 128) × (start ≡ rank g (start_of h.now)) × (rule29 g h.now ≡ true) }
     ensures { result ≡ rule35 g h.now }
 {
-    let read = address_rank(g, &h[34..39]);
-    let Perhaps::Number(end) = read else {
+    let Some(end) = address_rank(g, &h[34..39]) else {
         return false;
     };
     !(end < start)
 }
 
 // "40 space or F (fixed), V, S; levels space and 1 fixed only."
+#[tactic(auto, unfolding(crate::specs::Parts::format_right))]
 pub fn format_right(c: u64, f: u64) -> bool
     ensures { result ≡ format_right c f }
 {
-    one_of_4(f, 32, 70, 86, 83) & if_so((c == 32) | (c == 49), one_of_2(f, 32, 70))
+    one_of(f, b" FVS") & if_so((c == 32) | (c == 49), one_of(f, b" F"))
 }
 
 // "at least 1, 4, 5 for F, V, S"
+#[tactic(auto, unfolding(crate::specs::Parts::block_least))]
 fn block_least(f: u64, right40: bool, b: u64) -> bool
     ensures { result ≡ block_least f right40 b }
 {
-    (!right40 | (!one_of_2(f, 32, 70) | (1 <= b)))
-        & (!right40 | (!one_of_1(f, 86) | (4 <= b)))
-        & (!right40 | (!one_of_1(f, 83) | (5 <= b)))
+    (!right40 | (!one_of(f, b" F") | (1 <= b)))
+        & (!right40 | (!one_of(f, b"V") | (4 <= b)))
+        & (!right40 | (!one_of(f, b"S") | (5 <= b)))
 }
 
 // "at most D·P; above P a multiple of P; level space at most P; V and S at most 9,999 (house)."
+#[tactic(auto, unfolding(crate::specs::Parts::block_fits))]
 fn block_fits(g: Geometry, c: u64, f: u64, right40: bool, b: u64) -> bool
     ensures { result ≡ block_fits g c f right40 b }
 {
-    let p = wide16(g.P);
-    let most = times(p, wide(g.D));
-    let long = one_of_1(f, 86) | one_of_1(f, 83);
+    let p = u64::from(g.P);
+    let most = times::<65536>(u64::from(g.D), p);
+    let long = one_of(f, b"V") | one_of(f, b"S");
     block_least(f, right40, b)
         & (b <= most)
         & (!(p < b) | is_multiple(b, p))
@@ -105,78 +109,64 @@ fn block_fits(g: Geometry, c: u64, f: u64, right40: bool, b: u64) -> bool
         & (!right40 | (!long | (b <= 9999)))
 }
 
-fn number_if(test: bool, n: u64) -> Perhaps
-    ensures { result ≡ perhaps test n }
-{
-    if test {
-        return Perhaps::Number(n);
-    }
-    Perhaps::Nothing
-}
-
 // "23-27 block length B": the number, if the field is right. A part that reads 40 is not applied while 40 is at fault.
-pub fn block_in(g: Geometry, h: &[u8], c: u64, f: u64, right40: bool) -> Perhaps
+pub fn block_in(g: Geometry, h: &[u8], c: u64, f: u64, right40: bool) -> Option<u64>
     requires { (length h.now ≡ 128) × (c ≡ level h.now) × (f ≡ at h.now 40) × (right40 ≡ rule40 h.now) }
     ensures { result ≡ perhaps (rule23 g h.now) (block_length h.now) }
 {
-    let read = decimal_in(&h[22..27]);
-    let Perhaps::Number(b) = read else {
-        return Perhaps::Nothing;
-    };
-    number_if(block_fits(g, c, f, right40, b), b)
+    let b = decimal_in(&h[22..27])?;
+    block_fits(g, c, f, right40, b).then_some(b)
 }
 
 // "63 space, or B for blocked; S needs B; level space needs space." 40 is right.
+#[tactic(auto, unfolding(crate::specs::Parts::blocked_right))]
 pub fn blocked_right(c: u64, f: u64, b: u64) -> bool
     ensures { result ≡ blocked_right c f b }
 {
-    one_of_2(b, 32, 66) & (!one_of_1(f, 83) | (b == 66)) & (!(c == 32) | (b == 32))
+    one_of(b, b" B") & (!one_of(f, b"S") | (b == 66)) & (!(c == 32) | (b == 32))
 }
 
 // The number of a field that may be blank, if it is blank or has digits. It stands from a on and ends before e.
-fn blank_or(blank: u64, h: &[u8], a: usize, e: usize) -> Perhaps
+#[tactic(auto, unfolding(crate::specs::Parts::blank_or))]
+fn blank_or(blank: u64, h: &[u8], a: usize, e: usize) -> Option<u64>
     requires { (length h.now ≡ 128) × (a ≤ e) × (e ≤ 128) × (e ≤ a + 9) }
     ensures { result ≡ blank_or blank (take (e - a) (drop a h.now)) }
 {
     let f = &h[a..e];
-    if all_of(Class::Space, f) {
-        return Perhaps::Number(blank);
+    if all_spaces(f) {
+        return Some(blank);
     }
     decimal_in(f)
 }
 
 // "F: 1 to B, equal to B if unblocked, else a divisor of B; level space R = B. V: 4 to B, RCW counted." A part that reads 63 is not applied while 63 is at
 // fault; 23 and 40 are right.
+#[tactic(auto, unfolding(crate::specs::Parts::record_fits))]
 fn record_fits(c: u64, f: u64, right63: bool, blocked: bool, b: u64, r: u64) -> bool
     ensures { result ≡ record_fits c f right63 blocked b r }
 {
-    let fixed = one_of_2(f, 32, 70);
+    let fixed = one_of(f, b" F");
     (!fixed | in_range(1, b, r))
         & (!right63 | (!(fixed & !blocked) | (r == b)))
         & (!right63 | (!(fixed & blocked) | is_multiple(b, r)))
         & (!(c == 32) | (r == b))
-        & (!one_of_1(f, 86) | in_range(4, b, r))
+        & (!one_of(f, b"V") | in_range(4, b, r))
 }
 
 // "54-57 record length R; spaces mean R = B": the number, if the field is right.
-pub fn record_in(g: Geometry, h: &[u8], x: Seen, b: u64, right63: bool) -> Perhaps
+pub fn record_in(g: Geometry, h: &[u8], x: Seen, b: u64, right63: bool) -> Option<u64>
     requires { (length h.now ≡ 128) × Held g h.now x × (b ≡ at h.now 63) × (right63 ≡ rule63 h.now) }
     ensures { result ≡ perhaps (rule54 g h.now) (record_length h.now) }
 {
-    let read = blank_or(x.block, h, 53, 57);
-    let Perhaps::Number(r) = read else {
-        return Perhaps::Nothing;
-    };
-    number_if(
-        record_fits(x.level, x.format, right63, b == 66, x.block, r),
-        r,
-    )
+    let r = blank_or(x.block, h, 53, 57)?;
+    record_fits(x.level, x.format, right63, b == 66, x.block, r).then_some(r)
 }
 
+#[tactic(auto, unfolding(crate::specs::Parts::unused_fits))]
 fn unused_fits(f: u64, right63: bool, blocked: bool, b: u64, r: u64, u: u64) -> bool
     ensures { result ≡ unused_fits f right63 blocked b r u }
 {
-    (u < b) & (!right63 | (blocked | (u == 0))) & (!one_of_2(f, 32, 70) | is_multiple(u, r))
+    (u < b) & (!right63 | (blocked | (u == 0))) & (!one_of(f, b" F") | is_multiple(u, r))
 }
 
 // "58-62 unused count U, spaces meaning 0, below B; 0 if unblocked; for F a multiple of R." 23, 40 and 54 are right.
@@ -184,26 +174,24 @@ pub fn unused_right(g: Geometry, h: &[u8], x: Seen, b: u64, right63: bool, r: u6
     requires { (length h.now ≡ 128) × Held g h.now x × (b ≡ at h.now 63) × (right63 ≡ rule63 h.now) × (r ≡ record_length h.now) × (rule54 g h.now ≡ true) }
     ensures { result ≡ rule58 g h.now }
 {
-    let read = blank_or(0, h, 57, 62);
-    let Perhaps::Number(u) = read else {
+    let Some(u) = blank_or(0, h, 57, 62) else {
         return false;
     };
     unused_fits(x.format, right63, b == 66, x.block, r, u)
 }
 
 // "spaces or YYMMDD (month 01-12, day 01-31)"
+#[tactic(auto, unfolding(standard::specs::Labels::spaces_or_date))]
 fn spaces_or_date(f: &[u8]) -> bool
     requires { length f.now ≡ 6 }
     ensures { result ≡ spaces_or_date f.now }
 {
-    if all_of(Class::Space, f) {
+    if all_spaces(f) {
         return true;
     }
-    let read = decimal_in(f);
-    let Perhaps::Number(_) = read else {
-        return false;
-    };
-    in_range(1, 12, number_2(&f[2..4])) & in_range(1, 31, number_2(&f[4..6]))
+    decimal_in(f).is_some()
+        & in_range(1, 12, number_in(&f[2..4]))
+        & in_range(1, 31, number_in(&f[4..6]))
 }
 
 // "48-53 spaces or YYMMDD"
@@ -231,8 +219,7 @@ pub fn data_end_right(g: Geometry, h: &[u8], start: u64) -> bool
     requires { (length h.now ≡ 128) × (start ≡ rank g (start_of h.now)) × (rule29 g h.now ≡ true) }
     ensures { result ≡ rule75 g h.now }
 {
-    let read = Address::read(&h[74..79]);
-    let FiveDigits::Digits(a) = read else {
+    let Some(a) = Address::read(&h[74..79]) else {
         return false;
     };
     if !(is_legal(g, a) | past_last(g, a)) {

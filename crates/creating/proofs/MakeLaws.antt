@@ -1,5 +1,6 @@
 -- Request 2026-01, creating: the exits of the list of refusals, what an accepted plan gives to the code that carries it out, and the call.
 -- Assumes nothing.
+use Rattle.std.specs.Prelude.{Result, Ok, Err, Some, None, ⊤}
 use Prim.Native.Nat.{ℕ, ◌+◌, ◌-◌, ◌<◌, ◌≤◌}
 use mathlib.Core.Path.{◌≡◌, refl, sym, ap, subst, ◌∙◌}
 use mathlib.Core.List.{List}
@@ -9,16 +10,11 @@ use borrow.Author.Tests.{lt-ltb, ne_eqb}
 use Rattle.standard.specs.Refusals.{refuse, refuse_at, given_when, in_order, or_else}
 use Rattle.standard.specs.Addresses.{address_of, address_count, legal}
 use Rattle.standard.specs.Judgement.{judged}
-use Rattle.standard.specs.Creating.{name_in, proposed, proposal_fault, run_start, lowest_deleted, lowest_run, store_slot, create_refusal, created_start, image_created, creation, created, image_after_create, Creation}
+use Rattle.standard.specs.Creating.{name_in, proposed, proposal_fault, run_start, lowest_deleted, lowest_run, store_slot, create_refusal, created_start, image_created, creation, created, image_after_create, Creation, file_made}
 use Rattle.standard.specs.declared.Geometry.{Geometry}
 use Rattle.standard.specs.declared.Address.{Address}
 use Rattle.standard.specs.declared.Refusal.{Refusal}
-use Rattle.standard.specs.declared.Checked.{Checked}
-use Rattle.standard.specs.declared.Checked.TheVariants.{Passed, Stopped}
 use Rattle.standard.specs.declared.Created.{Created}
-use Rattle.standard.specs.declared.Created.TheVariants.{Uncreated, Placed}
-use Rattle.standard.specs.declared.Judged.TheVariants.{Refused, Volume}
-use Rattle.standard.specs.declared.Run.TheVariants.{NoRun, RunAt}
 use Rattle.promises.specs.Ground.Basics.{never}
 use Rattle.promises.specs.Images.AddressLaws.{parts, legal_of}
 use Rattle.promises.specs.Volumes.VolumeNumbers.{Numbers, numbers_of_lem}
@@ -28,32 +24,31 @@ use Rattle.layout.specs.Room.{Room}
 use Rattle.volume.proofs.NumberLaws.{slotted_of}
 use Rattle.finding.specs.Slot.{slot_named}
 use Rattle.finding.proofs.FindLaws.{room, found_none, found_some}
+use Rattle.creating.specs.declared.Plan.{Plan}
 use Rattle.creating.specs.Plans.{plan_or, room_in, plan_in, Accepted}
-use Rattle.creating.specs.declared.Planned.{Planned}
-use Rattle.creating.specs.declared.Planned.TheVariants.{Stop, Go}
 
 -- 28, 29, OR THE ROOM
 module _ (g : Geometry) (image : List ℕ) (n : ℕ) where
-  pub room_28 : lowest_deleted g image ≡ 0 → Stop (refuse 28 0) ≡ room_in g image n
+  pub room_28 : lowest_deleted g image ≡ 0 → Err (refuse 28 0) ≡ room_in g image n
   unfolding room_in given_when in_order or_else
   room_28 z = rw z
 
-  pub room_29 : (slot : ℕ) → slot ≡ lowest_deleted g image → (slot ≡ 0 → ⊥) → lowest_run g image n ≡ NoRun → Stop (refuse 29 0) ≡ room_in g image n
+  pub room_29 : (slot : ℕ) → slot ≡ lowest_deleted g image → (slot ≡ 0 → ⊥) → lowest_run g image n ≡ None → Err (refuse 29 0) ≡ room_in g image n
   unfolding room_in given_when in_order or_else
   room_29 slot e s r = rw (ne_eqb (lowest_deleted g image) 0 (λ (z : lowest_deleted g image ≡ 0). s (e ∙ z)), r)
 
-  pub room_go : (slot i : ℕ) → slot ≡ lowest_deleted g image → (slot ≡ 0 → ⊥) → lowest_run g image n ≡ RunAt i → Go slot i ≡ room_in g image n
+  pub room_go : (slot i : ℕ) → slot ≡ lowest_deleted g image → (slot ≡ 0 → ⊥) → lowest_run g image n ≡ Some i → Ok (record { slot = slot; first = i }) ≡ room_in g image n
   unfolding room_in given_when in_order or_else
   room_go slot i e s r =
-      rw (ne_eqb (lowest_deleted g image) 0 (λ (z : lowest_deleted g image ≡ 0). s (e ∙ z)), r) (ap (λ (x : ℕ). Go x i) e ∙ ap (Go (lowest_deleted g image)) (sym (ap run_start r)))
+      rw (ne_eqb (lowest_deleted g image) 0 (λ (z : lowest_deleted g image ≡ 0). s (e ∙ z)), r) (ap (λ (x : ℕ). Ok (record { slot = x; first = i })) e ∙ ap (λ (x : ℕ). Ok (record { slot = lowest_deleted g image; first = x })) (sym (ap run_start r)))
 
 -- 10 AND 12 BEFORE IT
 module _ (g : Geometry) (image w : List ℕ) (n : ℕ) where
-  pub plan_10 : (p : ℕ) → p ≡ proposal_fault g w n → 0 < p → Stop (refuse_at 10 0 p) ≡ plan_in g image w n
+  pub plan_10 : (p : ℕ) → p ≡ proposal_fault g w n → 0 < p → Err (refuse_at 10 0 p) ≡ plan_in g image w n
   unfolding plan_in create_refusal given_when in_order or_else
   plan_10 p e l = rw (sym e, lt-ltb 0 p l)
 
-  pub plan_12 : (s : ℕ) → proposal_fault g w n ≡ 0 → s ≡ slot_named g image (name_in w) → 0 < s → Stop (refuse 12 s) ≡ plan_in g image w n
+  pub plan_12 : (s : ℕ) → proposal_fault g w n ≡ 0 → s ≡ slot_named g image (name_in w) → 0 < s → Err (refuse 12 s) ≡ plan_in g image w n
   unfolding plan_in create_refusal given_when in_order or_else
   plan_12 s z e l = rw (z, found_some g image (name_in w) s e (λ (q : s ≡ 0). omega arith))
 
@@ -115,58 +110,58 @@ module _ (g : Geometry) (image w : List ℕ) (n slot i : ℕ) (a : Accepted g im
   )
 
 -- THE CALL: its answer, and the image
-abbrev pub Ends : List ℕ → List ℕ → ℕ → Created → List ℕ → Type 0
+abbrev pub Ends : List ℕ → List ℕ → ℕ → Result Created Refusal → List ℕ → Type 0
 Ends image w n r after = (r ≡ created image w n) × (after ≡ image_after_create image w n)
 
 ended_with : (image w : List ℕ) (n : ℕ) (o : Creation) → creation image w n ≡ o → Ends image w n o.answer o.image
 ended_with image w n o e = (sym (ap (λ (x : Creation). x.answer) e), sym (ap (λ (x : Creation). x.image) e))
 
 abbrev uncreated : List ℕ → Refusal → Creation
-uncreated image r = record { answer = Uncreated r; image = image }
+uncreated image r = record { answer = Err r; image = image }
 
-pub make_stopped : (image w : List ℕ) (n : ℕ) (r : Refusal) → judged image ≡ Refused r → Ends image w n (Uncreated r) image
+pub make_stopped : (image w : List ℕ) (n : ℕ) (r : Refusal) → judged image ≡ Err r → Ends image w n (Err r) image
 unfolding creation
 make_stopped image w n r j =
     let e : creation image w n ≡ uncreated image r = rw j in
     ended_with image w n (uncreated image r) e
 
 -- what a plan says of the refusals before it
-abbrev refusal_in : Planned → Refusal → Refusal
-refusal_in (Stop r) other = r
-refusal_in (Go slot i) other = other
+abbrev refusal_in : Result Plan Refusal → Refusal → Refusal
+refusal_in (Err r) other = r
+refusal_in (Ok p) other = other
 
-abbrev slot_in : Planned → ℕ
-slot_in (Stop r) = 0
-slot_in (Go slot i) = slot
+abbrev slot_in : Result Plan Refusal → ℕ
+slot_in (Err r) = 0
+slot_in (Ok p) = p.slot
 
-abbrev first_in : Planned → ℕ
-first_in (Stop r) = 0
-first_in (Go slot i) = i
+abbrev first_in : Result Plan Refusal → ℕ
+first_in (Err r) = 0
+first_in (Ok p) = p.first
 
-module _ (image : List ℕ) (g : Geometry) (w : List ℕ) (n : ℕ) (j : judged image ≡ Volume g) where
-  planned_stop : (c : Checked) (r : Refusal) → plan_or c g image n ≡ Stop r → c ≡ Stopped r
-  planned_stop Passed r e = never (cc)
-  planned_stop (Stopped s) r e = ap Stopped (ap (λ (k : Planned). refusal_in k r) e)
+module _ (image : List ℕ) (g : Geometry) (w : List ℕ) (n : ℕ) (j : judged image ≡ Ok g) where
+  planned_stop : (c : Result ⊤ Refusal) (r : Refusal) → plan_or c g image n ≡ Err r → c ≡ Err r
+  planned_stop (Ok _) r e = never (cc)
+  planned_stop (Err s) r e = ap Err (ap (λ (k : Result Plan Refusal). refusal_in k r) e)
 
-  planned_go : (c : Checked) (slot i : ℕ) → plan_or c g image n ≡ Go slot i → (c ≡ Passed) × (slot ≡ lowest_deleted g image) × (i ≡ run_start (lowest_run g image n))
-  planned_go Passed slot i e = (refl, sym (ap slot_in e), sym (ap first_in e))
-  planned_go (Stopped s) slot i e = never (cc)
+  planned_go : (c : Result ⊤ Refusal) (slot i : ℕ) → plan_or c g image n ≡ Ok (record { slot = slot; first = i }) → (c ≡ Ok tt) × (slot ≡ lowest_deleted g image) × (i ≡ run_start (lowest_run g image n))
+  planned_go (Ok _) slot i e = (refl, sym (ap slot_in e), sym (ap first_in e))
+  planned_go (Err s) slot i e = never (cc)
 
-  pub make_refused : (r : Refusal) → plan_in g image w n ≡ Stop r → Ends image w n (Uncreated r) image
+  pub make_refused : (r : Refusal) → plan_in g image w n ≡ Err r → Ends image w n (Err r) image
   unfolding plan_in creation
   make_refused r p =
       let c = planned_stop (create_refusal g image w n) r p in
       let e : creation image w n ≡ uncreated image r = rw (j, c) in
       ended_with image w n (uncreated image r) e
 
-  pub make_accepted : (slot i : ℕ) → plan_in g image w n ≡ Go slot i → Accepted g image w n slot i
+  pub make_accepted : (slot i : ℕ) → plan_in g image w n ≡ Ok (record { slot = slot; first = i }) → Accepted g image w n slot i
   unfolding plan_in
   make_accepted slot i p =
       let k = planned_go (create_refusal g image w n) slot i p in
       (j, k.0, k.1, k.2)
 
   pub make_done : (slot i : ℕ) (start : Address) (after : List ℕ) → Accepted g image w n slot i → start ≡ created_start g image n → after ≡ image_created g image w n
-      → Ends image w n (Placed slot start) after
+      → Ends image w n (file_made slot start) after
   make_done slot i start after a es ea =
       let e = ended_with image w n _ (creation_is image g w n j a.1) in
-      (ap (λ (x : ℕ). Placed x start) a.2 ∙ ap (Placed (lowest_deleted g image)) es ∙ e.0, ea ∙ e.1)
+      (ap (λ (x : ℕ). file_made x start) a.2 ∙ ap (file_made (lowest_deleted g image)) es ∙ e.0, ea ∙ e.1)

@@ -12,46 +12,42 @@ use drafting::{draft, proposal_fault};
 use extents::address_of;
 use finding::slot_named;
 use relabel::store_slot;
-use standard::{Address, Created, Geometry, Judged, Refusal, Run};
+use standard::{Address, Created, Geometry, Refusal};
 use vacancy::{lowest_deleted, lowest_run};
-use volume::{judge, refusal_of};
+use volume::judge;
 
-// One of the refusals 10, 12, 28, 29; or the slot and the number, from 0, of the first address.
+// What an accepted create does: the slot of the new label, and the number, from 0, of its file's first address.
 #[derive(Clone, Copy)]
-pub enum Planned {
-    Stop(Refusal),
-    Go(u64, u64),
+pub struct Plan {
+    pub slot: u64,
+    pub first: u64,
 }
 
 // "then 28 no deleted slot, 29 no run"
-fn room_in(g: Geometry, image: &[u8], n: u64) -> Planned
-    requires { (judged image.now ≡ Judged.Volume g) × (1 ≤ n) }
+fn room_in(g: Geometry, image: &[u8], n: u64) -> Result<Plan, Refusal>
+    requires { (judged image.now ≡ Ok g) × (1 ≤ n) }
     ensures { result ≡ room_in g image.now n }
 {
-    let slot = lowest_deleted(g, image);
-    if slot == 0 {
-        return Planned::Stop(Refusal::at(28, 0));
-    }
-    let run = lowest_run(g, image, n);
-    match run {
-        Run::NoRun => Planned::Stop(Refusal::at(29, 0)),
-        Run::RunAt(i) => Planned::Go(slot, i),
-    }
+    let Some(slot) = lowest_deleted(g, image) else {
+        return Err(Refusal::at(28, 0));
+    };
+    let Some(first) = lowest_run(g, image, n) else {
+        return Err(Refusal::at(29, 0));
+    };
+    Ok(Plan { slot, first })
 }
 
 // "10 for the proposed label, with slot 0 [..], 12 for a name in use, with the slot that has it, then 28 no deleted slot, 29 no run": the first refusal, or the
 // plan. (Inner, for layers above: on an accepted volume.)
-pub fn plan_in(g: Geometry, image: &[u8], wanted: &[u8], n: u64) -> Planned
-    requires { judged image.now ≡ Judged.Volume g }
+pub fn plan_in(g: Geometry, image: &[u8], wanted: &[u8], n: u64) -> Result<Plan, Refusal>
+    requires { judged image.now ≡ Ok g }
     ensures { result ≡ plan_in g image.now wanted.now n }
 {
-    let fault = proposal_fault(g, wanted, n);
-    if 0 < fault {
-        return Planned::Stop(Refusal::within(10, 0, fault));
+    if let Some(fault) = proposal_fault(g, wanted, n) {
+        return Err(Refusal::within(10, 0, fault));
     }
-    let bearer = slot_named(g, image, &wanted[0..17]);
-    if 0 < bearer {
-        return Planned::Stop(Refusal::at(12, bearer));
+    if let Some(bearer) = slot_named(g, image, &wanted[0..17]) {
+        return Err(Refusal::at(12, bearer));
     }
     room_in(g, image, n)
 }
@@ -68,19 +64,12 @@ pub fn carry_out(g: Geometry, image: &mut [u8], wanted: &[u8], n: u64, slot: u64
 }
 
 // Creating a file. "A file call stops at the first refusal of the volume." "A refusal returns number and place, and all lent bytes stay."
-pub fn create(image: &mut [u8], wanted: &[u8], n: u64) -> Created
+pub fn create(image: &mut [u8], wanted: &[u8], n: u64) -> Result<Created, Refusal>
     ensures { (result ≡ created image.old wanted.now n) × (image.new ≡ image_after_create image.old wanted.now n) }
 {
-    let j = judge(image);
-    let Judged::Volume(g) = j else {
-        return Created::Uncreated(refusal_of(j));
-    };
-    let p = plan_in(g, image, wanted, n);
-    match p {
-        Planned::Stop(r) => Created::Uncreated(r),
-        Planned::Go(slot, i) => {
-            let start = carry_out(g, image, wanted, n, slot, i);
-            Created::Placed(slot, start)
-        }
-    }
+    let g = judge(image)?;
+    let p = plan_in(g, image, wanted, n)?;
+    let slot = p.slot;
+    let start = carry_out(g, image, wanted, n, slot, p.first);
+    Ok(Created { slot, start })
 }

@@ -10,13 +10,13 @@ ghost use Rattle.standard.specs.Layout.{label_at};
 
 use finding::{known_file, unprotected};
 use relabel::store_slot;
-use standard::{Checked, Counted, Geometry, Judged};
+use standard::{Geometry, Refusal};
 use vacancy::size_in;
-use volume::{judge, refusal_of};
+use volume::judge;
 
 // "delete gives 13, 14, 24": the first of them that is given. (Inner, for layers above: on an accepted volume.)
-pub fn plan_out(g: Geometry, image: &[u8], slot: u64) -> Checked
-    requires { judged image.now ≡ Judged.Volume g }
+pub fn plan_out(g: Geometry, image: &[u8], slot: u64) -> Result<(), Refusal>
+    requires { judged image.now ≡ Ok g }
     ensures { result ≡ delete_refusal g image.now slot }
 {
     unprotected(g, image, slot, known_file(g, image, slot))
@@ -24,7 +24,7 @@ pub fn plan_out(g: Geometry, image: &[u8], slot: u64) -> Checked
 
 // The delete carried out. Answers how many records are free again: those of the extent. (Inner, for layers above: where nothing is refused.)
 pub fn drop_label(g: Geometry, image: &mut [u8], slot: u64) -> u64
-    requires { (judged image.old ≡ Judged.Volume g) × (delete_refusal g image.old slot ≡ Checked.Passed) }
+    requires { (judged image.old ≡ Ok g) × (delete_refusal g image.old slot ≡ Ok tt) }
     ensures { (result ≡ extent_size g (label_at g image.old slot)) × (image.new ≡ image_without g slot image.old) }
 {
     let freed = size_in(g, image, slot);
@@ -33,16 +33,10 @@ pub fn drop_label(g: Geometry, image: &mut [u8], slot: u64) -> u64
 }
 
 // Deleting a file. "A file call stops at the first refusal of the volume." "A refusal returns number and place, and all lent bytes stay."
-pub fn delete(image: &mut [u8], slot: u64) -> Counted
+pub fn delete(image: &mut [u8], slot: u64) -> Result<u64, Refusal>
     ensures { (result ≡ deleted image.old slot) × (image.new ≡ image_after_delete image.old slot) }
 {
-    let j = judge(image);
-    let Judged::Volume(g) = j else {
-        return Counted::Uncounted(refusal_of(j));
-    };
-    let c = plan_out(g, image, slot);
-    match c {
-        Checked::Stopped(r) => Counted::Uncounted(r),
-        Checked::Passed => Counted::Count(drop_label(g, image, slot)),
-    }
+    let g = judge(image)?;
+    plan_out(g, image, slot)?;
+    Ok(drop_label(g, image, slot))
 }

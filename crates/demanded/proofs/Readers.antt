@@ -3,7 +3,7 @@
 -- that meets the contract, whatever its code; and the wrong programs that document 01 names are shown to meet none. What holds of every call, demand 1 and that
 -- a contract leaves no choice, is in Called. The lines behind `=` only name the proof. `A → B`: if A then B; `A × B`: both; `A → ⊥`: not A.
 -- Assumes nothing.
-use Rattle.std.specs.Prelude.{ℕ, zero, suc, ◌*◌, ◌≤◌, ◌≡◌, refl, Bool, true, length, take, drop, replicate}
+use Rattle.std.specs.Prelude.{ℕ, zero, suc, ◌*◌, ◌≤◌, ◌≡◌, refl, Bool, true, length, take, drop, replicate, Result, Ok, Err}
 use Rattle.std.proofs.Common.{sym, ap, subst, ◌∙◌}
 use mathlib.Core.List.{List, [], ◌∷◌, ◌++◌, map, Memᴰ}
 use Rattle.standard.specs.Characters.{bytes}
@@ -20,9 +20,7 @@ use Rattle.standard.specs.declared.Geometry.{Geometry}
 use Rattle.standard.specs.declared.Place.{Place}
 use Rattle.standard.specs.declared.Refusal.{Refusal}
 use Rattle.standard.specs.declared.Answer.{Answer}
-use Rattle.standard.specs.declared.Answer.TheVariants.{Unanswered, Gap, End, Record as RecordOf}
-use Rattle.standard.specs.declared.Checked.TheVariants.{Passed}
-use Rattle.standard.specs.declared.Judged.TheVariants.{Volume}
+use Rattle.standard.specs.declared.Answer.TheVariants.{Gap, End, Record as RecordOf}
 use Rattle.promises.specs.Ground.Basics.{never, either}
 use Rattle.promises.proofs.Refusals.ReadingRefused.{LostIn, FirstLost}
 use Rattle.promises.specs.Reading.Following.{Heard, told, gap_at, done, refused, onward, following, heard_in}
@@ -42,71 +40,71 @@ use Rattle.demanded.specs.Called.{answered}
 use Rattle.demanded.specs.Readers.{Reader, Reads, as_defined, followed, RecordsOf, SalvagedAs, ReadAs}
 
 -- that is what `following` says of the definitions
-onward_same : (a : Answer) (out : List ℕ) (more more' : List ℕ → Place → List Heard) → ((o : List ℕ) (pl : Place) → more o pl ≡ more' o pl)
+onward_same : (a : Result Answer Refusal) (out : List ℕ) (more more' : List ℕ → Place → List Heard) → ((o : List ℕ) (pl : Place) → more o pl ≡ more' o pl)
     → onward a out more ≡ onward a out more'
-onward_same (Unanswered x) out more more' h = refl
-onward_same (RecordOf n pl) out more more' h = ap (λ (hs : List Heard). told (take n out) ∷ hs) (h out pl)
-onward_same (Gap pl) out more more' h = ap (λ (hs : List Heard). onward (Gap pl) out (λ o p. hs)) (h out pl)
-onward_same (End pl) out more more' h = refl
+onward_same (Err x) out more more' h = refl
+onward_same (Ok (RecordOf n pl)) out more more' h = ap (λ (hs : List Heard). told (take n out) ∷ hs) (h out pl)
+onward_same (Ok (Gap pl)) out more more' h = ap (λ (hs : List Heard). onward (Ok (Gap pl)) out (λ o p. hs)) (h out pl)
+onward_same (Ok (End pl)) out more more' h = refl
 
 pub followed_is : (m : Mode) (r : Reader) → Reads m r → (n : ℕ) (image : List ℕ) (slot : ℕ) (out : List ℕ) (pl : Place)
     → followed n r image slot out pl ≡ following n m image slot out pl
 unfolding followed following
 followed_is m r meets zero image slot out pl = refl
 followed_is m r meets (suc n) image slot out pl =
-    ap (λ (a : Answer). onward a (r (ask image slot pl out)).after (λ out' pl'. followed n r image slot out' pl')) (meets (ask image slot pl out)).0
+    ap (λ (a : Result Answer Refusal). onward a (r (ask image slot pl out)).after (λ out' pl'. followed n r image slot out' pl')) (meets (ask image slot pl out)).0
     ∙ ap (λ (o : List ℕ). onward (read_answer m image slot pl out) o (λ out' pl'. followed n r image slot out' pl')) (meets (ask image slot pl out)).1
     ∙ onward_same (read_answer m image slot pl out) (output_after m image slot pl out) _ _ (λ o p. followed_is m r meets n image slot o p)
 
 module _ (m : Mode) (r : Reader) (meets : Reads m r) where
   -- ======== ONE READING
   module _ (image : List ℕ) (slot : ℕ) (pl : Place) (out : List ℕ) where
-    abbrev given : Response Answer
+    abbrev given : Response (Result Answer Refusal)
     given = r (ask image slot pl out)
 
-    agreed : (a : Answer) → given.answer ≡ a → read_answer m image slot pl out ≡ a
+    agreed : (a : Result Answer Refusal) → given.answer ≡ a → read_answer m image slot pl out ≡ a
     agreed a h = sym (meets (ask image slot pl out)).0 ∙ h
 
     -- "Bytes behind a record in the output stay too; gap and End change none."
-    pub gap_leaves : (next : Place) → given.answer ≡ Gap next → given.after ≡ out
-    gap_leaves next h = (meets (ask image slot pl out)).1 ∙ gap_stays m image slot pl out next (agreed (Gap next) h)
+    pub gap_leaves : (next : Place) → given.answer ≡ Ok (Gap next) → given.after ≡ out
+    gap_leaves next h = (meets (ask image slot pl out)).1 ∙ gap_stays m image slot pl out next (agreed (Ok (Gap next)) h)
 
-    pub end_leaves : (next : Place) → given.answer ≡ End next → given.after ≡ out
-    end_leaves next h = (meets (ask image slot pl out)).1 ∙ end_stays m image slot pl out next (agreed (End next) h)
+    pub end_leaves : (next : Place) → given.answer ≡ Ok (End next) → given.after ≡ out
+    end_leaves next h = (meets (ask image slot pl out)).1 ∙ end_stays m image slot pl out next (agreed (Ok (End next)) h)
 
-    pub record_leaves : (k : ℕ) (next : Place) → given.answer ≡ RecordOf k next
+    pub record_leaves : (k : ℕ) (next : Place) → given.answer ≡ Ok (RecordOf k next)
         → (k ≤ length out) × (drop k given.after ≡ drop k out) × (length given.after ≡ length out)
-    record_leaves k next h = rw (meets (ask image slot pl out)).1 (record_stays m image slot pl out k next (agreed (RecordOf k next) h))
+    record_leaves k next h = rw (meets (ask image slot pl out)).1 (record_stays m image slot pl out k next (agreed (Ok (RecordOf k next)) h))
 
     -- every place handed out is in the file; a gap's is behind the first lost block from the place on (`FirstLost file a b`: from block a on, b is lost and none
     -- before it), so that a gap is given for no other block; End's is (count, 0)
-    module _ (g : Geometry) (accepted : judged image ≡ Volume g) (next : Place) where
+    module _ (g : Geometry) (accepted : judged image ≡ Ok g) (next : Place) where
       abbrev file : File
       file = file_in g image (label_at g image slot)
 
-      pub record_hands_out : (k : ℕ) → given.answer ≡ RecordOf k next → in_file file next ≡ true
-      record_hands_out k h = record_leads image g accepted m slot pl out next k (agreed (RecordOf k next) h)
+      pub record_hands_out : (k : ℕ) → given.answer ≡ Ok (RecordOf k next) → in_file file next ≡ true
+      record_hands_out k h = record_leads image g accepted m slot pl out next k (agreed (Ok (RecordOf k next)) h)
 
-      pub gap_hands_out : given.answer ≡ Gap next
+      pub gap_hands_out : given.answer ≡ Ok (Gap next)
           → (in_file file next ≡ true)
           × (b : ℕ) × FirstLost file pl.block b × (next ≡ record { block = suc b; offset = 0; mark = true })
-      gap_hands_out h = gap_leads image g accepted m slot pl out next (agreed (Gap next) h)
+      gap_hands_out h = gap_leads image g accepted m slot pl out next (agreed (Ok (Gap next)) h)
 
-      pub end_hands_out : given.answer ≡ End next
+      pub end_hands_out : given.answer ≡ Ok (End next)
           → (in_file file next ≡ true) × (next ≡ end_place (block_count g image (label_at g image slot)))
-      end_hands_out h = end_leads image g accepted m slot pl out next (agreed (End next) h)
+      end_hands_out h = end_leads image g accepted m slot pl out next (agreed (Ok (End next)) h)
 
       -- "No record is ever joined out of two others": its bytes are those of one piece `0`, or of pieces `1`, `2`.., `3` one behind the other, with no lost
       -- block between, and these stand first ahead of the place (`Run`, in Runs); only where the mark counts may dropped pieces stand before them
       -- (`AfterDropped`). `entering`: where the mark counts the reader is `marked`, else `fresh`; `Stands` says of either what stands ahead.
-      pub joins_rightly : (k : ℕ) → given.answer ≡ RecordOf k next
+      pub joins_rightly : (k : ℕ) → given.answer ≡ Ok (RecordOf k next)
           → (q : FileRecord) × (take k given.after ≡ q.body)
           × Stands (entering m file.params.format pl.offset pl.mark) (ahead file.params file.blocks pl.block pl.offset) q next
-      joins_rightly k h = rw (meets (ask image slot pl out)).1 (joined_rightly image g accepted m slot pl out k next (agreed (RecordOf k next) h))
+      joins_rightly k h = rw (meets (ask image slot pl out)).1 (joined_rightly image g accepted m slot pl out k next (agreed (Ok (RecordOf k next)) h))
 
     -- "A place at the end of a block's content goes on in the next block": what is read there is what is read at the place to which `next_block` moves it. So it is
     -- wherever only fill is left in a block that is not lost (`Finished`, in GoingOn)
-    pub goes_on_lem : (g : Geometry) → judged image ≡ Volume g → in_file (file_in g image (label_at g image slot)) pl ≡ true
+    pub goes_on_lem : (g : Geometry) → judged image ≡ Ok g → in_file (file_in g image (label_at g image slot)) pl ≡ true
         → Finished (file_in g image (label_at g image slot)) pl
         → let there = r (ask image slot (next_block (block_count g image (label_at g image slot)) pl) out) in
         (given.answer ≡ there.answer) × (given.after ≡ there.after)
@@ -120,7 +118,7 @@ module _ (m : Mode) (r : Reader) (meets : Reads m r) where
   -- ======== DEMAND 2
   -- "reading gives exactly the records the standard puts there"; "Any place in the file may be asked". `listed` is the declared list, straight from the blocks,
   -- `listed_from` the same from a place on; `heardIn room`: the list as it is heard with so much room in the output, up to a record that is too long, where 23 is
-  module _ (image : List ℕ) (g : Geometry) (slot : ℕ) (accepted : judged image ≡ Volume g) (opens : open_refusal g image slot ≡ Passed) where
+  module _ (image : List ℕ) (g : Geometry) (slot : ℕ) (accepted : judged image ≡ Ok g) (opens : open_refusal g image slot ≡ Ok tt) where
     pub gives : (n : ℕ) (out : List ℕ)
         → followed n r image slot out start ≡ heard_in (length out) (take n (listed m (file_in g image (label_at g image slot))))
     gives n out = followed_is m r meets n image slot out start ∙ reading_gives image g slot accepted opens m n out
@@ -141,7 +139,7 @@ module _ (m : Mode) (r : Reader) (meets : Reads m r) where
   -- ======== LOCALITY
   -- "Two accepted images equal in the index cylinder and in one file's extent give equal answers to every reading of that file."
   -- `AgreeOn g set`: the images have the same bytes in every sector of the set; `sectorOf g addresses`: the set of the sectors that have these addresses
-  pub local : (image image' : List ℕ) (g g' : Geometry) (slot : ℕ) → judged image ≡ Volume g → judged image' ≡ Volume g'
+  pub local : (image image' : List ℕ) (g g' : Geometry) (slot : ℕ) → judged image ≡ Ok g → judged image' ≡ Ok g'
       → take (index_sectors g * 129) image ≡ take (index_sectors g * 129) image'
       → AgreeOn g (sector_of g (extent g (label_at g image slot))) image image'
       → (pl : Place) (out : List ℕ) → ((r (ask image slot pl out)).answer ≡ (r (ask image' slot pl out)).answer) × ((r (ask image slot pl out)).after ≡ (r (ask image' slot pl out)).after)
@@ -150,7 +148,7 @@ module _ (m : Mode) (r : Reader) (meets : Reads m r) where
       answered_alike image image' slot (same.0 m) (same.1 m)
 
   -- "data skip them (house)": of two accepted images that differ on defective cylinders alone (`SameOffDefects`) every slot reads alike
-  pub looks_past_defects : (image image' : List ℕ) (g g' : Geometry) → judged image ≡ Volume g → judged image' ≡ Volume g' → SameOffDefects g image image'
+  pub looks_past_defects : (image image' : List ℕ) (g g' : Geometry) → judged image ≡ Ok g → judged image' ≡ Ok g' → SameOffDefects g image image'
       → (slot : ℕ) (pl : Place) (out : List ℕ) → ((r (ask image slot pl out)).answer ≡ (r (ask image' slot pl out)).answer) × ((r (ask image slot pl out)).after ≡ (r (ask image' slot pl out)).after)
   looks_past_defects image image' g g' j j' others slot =
       let same = reading_past_defects image g j image' g' j' others slot in
@@ -159,7 +157,7 @@ module _ (m : Mode) (r : Reader) (meets : Reads m r) where
 -- "After any of a readable file's sectors fail their check": `reader` reads the file whole before (these bodies and End), and the sectors that `hit` names fail
 -- (`Failed`: the other sectors have the same bytes, those have the kind of a failed check and any bytes behind it).
 module _ (reader salvager : Reader) (reads : Reads plain reader) (salvages : Reads salvage salvager)
-    (image image' : List ℕ) (g : Geometry) (slot : ℕ) (bodies : List (List ℕ)) (hit : ℕ → Bool) (accepted : judged image ≡ Volume g)
+    (image image' : List ℕ) (g : Geometry) (slot : ℕ) (bodies : List (List ℕ)) (hit : ℕ → Bool) (accepted : judged image ≡ Ok g)
     (readings : ℕ) (lent : List ℕ) (readable : followed readings reader image slot lent start ≡ map told bodies ++ (done ∷ []))
     (fail : Failed g hit image image') where
   whole : ReadsWhole image slot bodies
@@ -269,15 +267,15 @@ pub salvager_heard : (r : Reader) → Reads salvage r
     → followed 4 r (failed_at geometry 9 image) 1 output start ≡ told (bytes "AAAAAAAA") ∷ gap_at 1 ∷ told (bytes "CCC") ∷ done ∷ []
 salvager_heard r meets = followed_is salvage r meets 4 (failed_at geometry 9 image) 1 output start ∙ computed.2
 
-refused_at_once : (r : Reader) (image : List ℕ) (x : Refusal) → (r (ask image 1 start output)).answer ≡ Unanswered x
+refused_at_once : (r : Reader) (image : List ℕ) (x : Refusal) → (r (ask image 1 start output)).answer ≡ Err x
     → followed 4 r image 1 output start ≡ refused x ∷ []
 unfolding followed
 refused_at_once r image x h =
-    ap (λ (a : Answer). onward a (r (ask image 1 start output)).after (λ out' pl'. followed 3 r image 1 out' pl')) h
+    ap (λ (a : Result Answer Refusal). onward a (r (ask image 1 start output)).after (λ out' pl'. followed 3 r image 1 out' pl')) h
 
 -- so that one who is heard otherwise meets no contract. One that refuses everything: it would refuse the start of this file
 module _ (r : Reader) (meets : Reads plain r) where
-  pub no_refusing : (x : Refusal) → (r (ask image 1 start output)).answer ≡ Unanswered x → ⊥
+  pub no_refusing : (x : Refusal) → (r (ask image 1 start output)).answer ≡ Err x → ⊥
   no_refusing x h = let e = sym (reader_heard r meets) ∙ refused_at_once r image x h in never (cc)
 
   -- one that names the same record each time:
@@ -289,7 +287,7 @@ module _ (r : Reader) (meets : Reads plain r) where
   no_stopping body h = let e = sym (reader_heard r meets) ∙ h in never (cc)
 
 module _ (r : Reader) (meets : Reads salvage r) where
-  pub no_refusing_salvage : (x : Refusal) → (r (ask (failed_at geometry 9 image) 1 start output)).answer ≡ Unanswered x → ⊥
+  pub no_refusing_salvage : (x : Refusal) → (r (ask (failed_at geometry 9 image) 1 start output)).answer ≡ Err x → ⊥
   no_refusing_salvage x h = let e = sym (salvager_heard r meets) ∙ refused_at_once r (failed_at geometry 9 image) x h in never (cc)
 
   pub no_repeating_salvage : (body : List ℕ) (more : List Heard) → followed 4 r (failed_at geometry 9 image) 1 output start ≡ told body ∷ told body ∷ more → ⊥
@@ -325,9 +323,9 @@ no_dropping r s h =
     never (cc)
 
 -- one that invents a gap: where no block is lost from the place on, none is answered
-pub no_inventing : (m : Mode) (r : Reader) → Reads m r → (image : List ℕ) (g : Geometry) (slot : ℕ) → judged image ≡ Volume g
+pub no_inventing : (m : Mode) (r : Reader) → Reads m r → (image : List ℕ) (g : Geometry) (slot : ℕ) → judged image ≡ Ok g
     → (pl : Place) → ((b : ℕ) → pl.block ≤ b → LostIn (file_in g image (label_at g image slot)) b → ⊥)
-    → (out : List ℕ) (next : Place) → (r (ask image slot pl out)).answer ≡ Gap next → ⊥
+    → (out : List ℕ) (next : Place) → (r (ask image slot pl out)).answer ≡ Ok (Gap next) → ⊥
 no_inventing m r meets image g slot accepted pl none out next h =
     let (inside, b, first, at) = gap_hands_out m r meets image slot pl out g accepted next h in
     none b first.behind first.is_lost

@@ -4,7 +4,7 @@
 -- or found by any that meets that. The lines behind `=` only name the proof. `A → B`: if A then B; `A × B`: both; `A ⊎ B`: one of them; `A → ⊥`: not A.
 -- Assumes nothing.
 use Prim.Native.Nat.{ℕ, zero, suc, ◌+◌, ◌-◌, ◌*◌, ◌<◌, ◌≤◌}
-use Rattle.std.specs.Prelude.{◌≡◌, Bool, true, false, ◌⊎◌, length, get_or, replicate, take, drop}
+use Rattle.std.specs.Prelude.{◌≡◌, Bool, true, false, ◌⊎◌, length, get_or, replicate, take, drop, Result, Ok, Err}
 use Rattle.std.proofs.Math.Path.{refl}
 use Rattle.std.proofs.Common.{sym, ap, subst, ◌∙◌, inl, inr, arith, lt-ltb, le-ltb, le-leb}
 use mathlib.Core.List.{List, [], ◌∷◌, ◌++◌, map}
@@ -25,14 +25,7 @@ use Rattle.standard.specs.declared.Geometry.{Geometry}
 use Rattle.standard.specs.declared.Address.{Address}
 use Rattle.standard.specs.declared.Place.{Place}
 use Rattle.standard.specs.declared.Refusal.{Refusal}
-use Rattle.standard.specs.declared.Checked.TheVariants.{Passed}
-use Rattle.standard.specs.declared.Counted.{Counted}
-use Rattle.standard.specs.declared.Counted.TheVariants.{Count}
 use Rattle.standard.specs.declared.Found.{Found}
-use Rattle.standard.specs.declared.Judged.{Judged}
-use Rattle.standard.specs.declared.Judged.TheVariants.{Volume}
-use Rattle.standard.specs.declared.Written.{Written}
-use Rattle.standard.specs.declared.Written.TheVariants.{Unwritten, Blocks}
 use Rattle.promises.specs.Ground.Basics.{never, either, eq_or_not}
 use Rattle.promises.specs.Images.AddressLaws.{parts, step_rank}
 use Rattle.promises.specs.Volumes.AcceptedLaws.{InRange, has_slot}
@@ -101,23 +94,23 @@ carried = (refl, refl, refl, (λ h. absurd (omega (arith, ap (λ (a : Address). 
 module _ (w : Writer) (meets : Writes w) where
   -- ======== WHAT IS ACCEPTED
   module _ (image : List ℕ) (slot : ℕ) (bodies lengths : List ℕ) where
-    agreed : (a : Written) → (w (give image slot bodies lengths)).answer ≡ a → written image slot bodies lengths ≡ a
+    agreed : (a : Result ℕ Refusal) → (w (give image slot bodies lengths)).answer ≡ a → written image slot bodies lengths ≡ a
     agreed a h = sym (meets (give image slot bodies lengths)).0 ∙ h
 
     -- Exactly what no refusal of the list is given for (`refuses_exactly`, in Called): the answer is then the number of blocks that the list needs
-    pub accepts_by_the_list : (g : Geometry) (n : ℕ) → judged image ≡ Volume g
-        → Exactly ((w (give image slot bodies lengths)).answer ≡ Blocks n)
-        ((write_refusal g image slot bodies lengths ≡ Passed) × (n ≡ needed (label_at g image slot) bodies lengths))
+    pub accepts_by_the_list : (g : Geometry) (n : ℕ) → judged image ≡ Ok g
+        → Exactly ((w (give image slot bodies lengths)).answer ≡ Ok n)
+        ((write_refusal g image slot bodies lengths ≡ Ok tt) × (n ≡ needed (label_at g image slot) bodies lengths))
     accepts_by_the_list g n accepted = (
-      (λ h. (accepted_write image g accepted slot bodies lengths n (agreed (Blocks n) h), (write_counts image g slot bodies lengths n accepted (agreed (Blocks n) h)).0)),
-      (λ p. (meets (give image slot bodies lengths)).0 ∙ answers image g slot bodies lengths accepted p.0 ∙ ap Blocks (sym p.1)),
+      (λ h. (accepted_write image g accepted slot bodies lengths n (agreed (Ok n) h), (write_counts image g slot bodies lengths n accepted (agreed (Ok n) h)).0)),
+      (λ p. (meets (give image slot bodies lengths)).0 ∙ answers image g slot bodies lengths accepted p.0 ∙ ap Ok (sym p.1)),
     )
 
   -- ======== DEMAND 2
   -- "an accepted write reads back as its list and changes no byte but the sectors it fills and two fields of the label." A write is accepted where it answers
   -- with a number of blocks, n. `parted bodies lengths`: the list, record by record.
-  module _ (image : List ℕ) (g : Geometry) (slot : ℕ) (bodies lengths : List ℕ) (n : ℕ) (accepted : judged image ≡ Volume g)
-      (success : (w (give image slot bodies lengths)).answer ≡ Blocks n) where
+  module _ (image : List ℕ) (g : Geometry) (slot : ℕ) (bodies lengths : List ℕ) (n : ℕ) (accepted : judged image ≡ Ok g)
+      (success : (w (give image slot bodies lengths)).answer ≡ Ok n) where
     abbrev after : List ℕ
     after = (w (give image slot bodies lengths)).after
 
@@ -127,10 +120,10 @@ module _ (w : Writer) (meets : Writes w) where
     left : after ≡ image_after image slot bodies lengths
     left = (meets (give image slot bodies lengths)).1
 
-    so : written image slot bodies lengths ≡ Blocks n
-    so = agreed image slot bodies lengths (Blocks n) success
+    so : written image slot bodies lengths ≡ Ok n
+    so = agreed image slot bodies lengths (Ok n) success
 
-    passed : write_refusal g image slot bodies lengths ≡ Passed
+    passed : write_refusal g image slot bodies lengths ≡ Ok tt
     passed = accepted_write image g accepted slot bodies lengths n so
 
     needs : n ≡ needed label bodies lengths
@@ -141,11 +134,11 @@ module _ (w : Writer) (meets : Writes w) where
     list_is = write_list_lem image g slot bodies lengths n accepted so
 
     -- the number answered is that of the blocks which the list needs, and which the file has afterwards
-    counted_after : counted after slot ≡ Count n
+    counted_after : counted after slot ≡ Ok n
     counted_after = ap (λ (s : List ℕ). counted s slot) left ∙ (write_counts image g slot bodies lengths n accepted so).1
 
     pub blocks_are : (n ≡ needed label bodies lengths)
-        × ((counter : InSlot → Response Counted) → Meets (contract count) counter → (counter (in_slot after slot)).answer ≡ Count n)
+        × ((counter : InSlot → Response (Result ℕ Refusal)) → Meets (contract count) counter → (counter (in_slot after slot)).answer ≡ Ok n)
     blocks_are = (needs, (λ counter counts. (counts (in_slot after slot)).0 ∙ counted_after))
 
     -- "changes no byte but the sectors it fills and two fields of the label": the length stays, and every byte is as before or `MayChange`, that is, in a
@@ -164,7 +157,7 @@ module _ (w : Writer) (meets : Writes w) where
     leaves_defects i s at d = ap (λ (x : List ℕ). get_or x i 0) left ∙ writing_past_defects image g accepted slot bodies lengths n i s so at d
 
     -- the image is accepted again, as the same volume
-    pub stays_accepted : judged after ≡ Volume g
+    pub stays_accepted : judged after ≡ Ok g
     stays_accepted = ap judged left ∙ write_stays_accepted image g slot bodies lengths n accepted so
 
     -- "Then U (spaces for 0) and the data end are set"
@@ -227,7 +220,7 @@ module _ (w : Writer) (meets : Writes w) where
               ∙ sym (reads (ask image other pl out)).1,
         )
 
-    pub others_counted_as_before : (other : ℕ) → (other ≡ slot → ⊥) → (counter : InSlot → Response Counted) → Meets (contract count) counter
+    pub others_counted_as_before : (other : ℕ) → (other ≡ slot → ⊥) → (counter : InSlot → Response (Result ℕ Refusal)) → Meets (contract count) counter
         → (counter (in_slot after other)).answer ≡ (counter (in_slot image other)).answer
     others_counted_as_before other ne counter counts =
         alike (contract count) counter counts (in_slot after other) (in_slot image other)
@@ -238,22 +231,22 @@ module _ (w : Writer) (meets : Writes w) where
         ap (λ (s : List ℕ). label_at g s other) left ∙ labels_stay image g slot bodies lengths accepted passed other ne low high
 
     -- and so is the volume, what is found by every name and in every slot, and the number of free records
-    pub judged_as_before : (judger : List ℕ → Response Judged) → Meets (contract judge) judger → (judger after).answer ≡ (judger image).answer
+    pub judged_as_before : (judger : List ℕ → Response (Result Geometry Refusal)) → Meets (contract judge) judger → (judger after).answer ≡ (judger image).answer
     judged_as_before judger judges = alike (contract judge) judger judges after image (stays_accepted ∙ sym accepted)
 
-    pub found_as_before : (finder : ByName → Response Found) → Meets (contract find) finder → (name : List ℕ)
+    pub found_as_before : (finder : ByName → Response (Result Found Refusal)) → Meets (contract find) finder → (name : List ℕ)
         → (finder (named after name)).answer ≡ (finder (named image name)).answer
     found_as_before finder finds name =
         alike (contract find) finder finds (named after name) (named image name)
         (ap (λ (s : List ℕ). found s name) left ∙ (finding_stays image g slot bodies lengths n accepted so).0 name)
 
-    pub found_in_slot_as_before : (finder : InSlot → Response Found) → Meets (contract find_slot) finder → (s : ℕ)
+    pub found_in_slot_as_before : (finder : InSlot → Response (Result Found Refusal)) → Meets (contract find_slot) finder → (s : ℕ)
         → (finder (in_slot after s)).answer ≡ (finder (in_slot image s)).answer
     found_in_slot_as_before finder finds s =
         alike (contract find_slot) finder finds (in_slot after s) (in_slot image s)
         (ap (λ (t : List ℕ). found_at t s) left ∙ (finding_stays image g slot bodies lengths n accepted so).1 s)
 
-    pub free_as_before : (counter : List ℕ → Response Counted) → Meets (contract free) counter → (counter after).answer ≡ (counter image).answer
+    pub free_as_before : (counter : List ℕ → Response (Result ℕ Refusal)) → Meets (contract free) counter → (counter after).answer ≡ (counter image).answer
     free_as_before counter counts =
         alike (contract free) counter counts after image (ap free_count left ∙ (finding_stays image g slot bodies lengths n accepted so).2)
 
@@ -267,7 +260,7 @@ module _ (w : Writer) (meets : Writes w) where
         ((finding_stays image g slot bodies lengths n accepted so).3 b l))
         (λ (ne : s ≡ slot → ⊥). (others_stay image g slot bodies lengths n accepted so s ne).3 b l)
 
-    pub refused_as_before : (s : ℕ) (b l : List ℕ) (x : Refusal) → Exactly ((w (give after s b l)).answer ≡ Unwritten x) ((w (give image s b l)).answer ≡ Unwritten x)
+    pub refused_as_before : (s : ℕ) (b l : List ℕ) (x : Refusal) → Exactly ((w (give after s b l)).answer ≡ Err x) ((w (give image s b l)).answer ≡ Err x)
     unfolding write_refusal
     refused_as_before s b l x =
         let now = refuses_exactly write g (give after s b l) (w (give after s b l)).answer (w (give after s b l)).after x stays_accepted (meets (give after s b l)) in
@@ -278,7 +271,7 @@ module _ (w : Writer) (meets : Writes w) where
         )
 
     -- and where it is not refused, it is answered as it would have been
-    needing_stays : (s : ℕ) (b l : List ℕ) → write_refusal g image s b l ≡ Passed → needed (label_at g image s) b l ≡ needed (label_at g after s) b l
+    needing_stays : (s : ℕ) (b l : List ℕ) → write_refusal g image s b l ≡ Ok tt → needed (label_at g image s) b l ≡ needed (label_at g after s) b l
     needing_stays s b l unrefused =
         either (eq_or_not s slot)
         (λ (e : s ≡ slot).
@@ -291,9 +284,9 @@ module _ (w : Writer) (meets : Writes w) where
     pub answered_as_before : (s : ℕ) (b l : List ℕ) → (w (give after s b l)).answer ≡ (w (give image s b l)).answer
     answered_as_before s b l = on (w (give image s b l)).answer refl
       where
-        on : (a : Written) → (w (give image s b l)).answer ≡ a → (w (give after s b l)).answer ≡ (w (give image s b l)).answer
-        on (Unwritten x) e = (refused_as_before s b l x).1 e ∙ sym e
-        on (Blocks k) e =
+        on : (a : Result ℕ Refusal) → (w (give image s b l)).answer ≡ a → (w (give after s b l)).answer ≡ (w (give image s b l)).answer
+        on (Err x) e = (refused_as_before s b l x).1 e ∙ sym e
+        on (Ok k) e =
             let p = (accepts_by_the_list image s b l g k accepted).0 e in
             (accepts_by_the_list after s b l g k stays_accepted).1 (refusing_stays s b l ∙ p.0, p.1 ∙ needing_stays s b l p.0) ∙ sym e
 
@@ -437,7 +430,7 @@ module _ (w : Writer) (meets : Writes w) where
 -- "These programs have to be rejected: one refusing everything ..; a write that reports success and stores nothing (read-back)". Of a small volume with an
 -- empty file (`demo`, in Instances) and the list `PARTS`, `LOG`, any function that meets the contract answers one block, and whoever reads the file afterwards
 -- hears both records:
-pub writer_answers : (w : Writer) → Writes w → (w (give demo 1 demo_bodies demo_lengths)).answer ≡ Blocks 1
+pub writer_answers : (w : Writer) → Writes w → (w (give demo 1 demo_bodies demo_lengths)).answer ≡ Ok 1
 writer_answers w meets = (meets (give demo 1 demo_bodies demo_lengths)).0 ∙ demo_accepted.3
 
 pub writer_heard : (w : Writer) → Writes w → (r : Reader) → Reads plain r
@@ -454,7 +447,7 @@ demo_empty = refl
 
 module _ (w : Writer) (meets : Writes w) where
   -- one that refuses everything: it would refuse this write
-  pub no_refusing_writes : (x : Refusal) → (w (give demo 1 demo_bodies demo_lengths)).answer ≡ Unwritten x → ⊥
+  pub no_refusing_writes : (x : Refusal) → (w (give demo 1 demo_bodies demo_lengths)).answer ≡ Err x → ⊥
   no_refusing_writes x h = let e = sym (writer_answers w meets) ∙ h in never (cc)
 
   -- one that stores nothing: every reader would hear what it heard before, and the image would be the one before

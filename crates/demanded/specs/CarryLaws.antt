@@ -3,7 +3,7 @@
 -- no record is heard.
 -- Assumes nothing.
 use Prim.Native.Nat.{ℕ, zero, suc, ◌-◌, ◌*◌, ◌<◌, ◌≤◌}
-use Rattle.std.specs.Prelude.{◌≡◌, Bool, cond, length, take, drop}
+use Rattle.std.specs.Prelude.{◌≡◌, Bool, cond, length, take, drop, Result, Ok, Err, ⊤}
 use Rattle.std.proofs.Math.Path.{refl, sym, ap, subst}
 use Rattle.std.proofs.Common.{◌∙◌, arith, le_refl, not-suc-le-zero, mul-le-mul_right, eq-eqb}
 use Rattle.std.proofs.Math.Bool.{true, false}
@@ -25,11 +25,6 @@ use Rattle.standard.specs.declared.Geometry.{Geometry}
 use Rattle.standard.specs.declared.Address.{Address}
 use Rattle.standard.specs.declared.Refusal.{Refusal}
 use Rattle.standard.specs.declared.Answer.{Answer}
-use Rattle.standard.specs.declared.Answer.TheVariants.{Unanswered}
-use Rattle.standard.specs.declared.Checked.{Checked}
-use Rattle.standard.specs.declared.Checked.TheVariants.{Passed, Stopped}
-use Rattle.standard.specs.declared.Judged.{Judged}
-use Rattle.standard.specs.declared.Judged.TheVariants.{Volume}
 use Rattle.promises.specs.Ground.Basics.{either, lt_or_le, by_test, never}
 use Rattle.promises.specs.Ground.Lists.{every_at}
 use Rattle.promises.specs.Images.AddressLaws.{rank_lt, step_rank, step_legal}
@@ -192,7 +187,7 @@ unfolding packing pack parted
 needed_none h bodies = ap length (pack_none (params_of h).format (params_of h).R (params_of h).blocked (block_length h))
 
 -- ---- A FILE WITHOUT A BLOCK: "The number of blocks is 0 if data end = start". No record is heard of it, only End or a refusal.
-module _ (image : List ℕ) (g : Geometry) (slot : ℕ) (accepted : judged image ≡ Volume g)
+module _ (image : List ℕ) (g : Geometry) (slot : ℕ) (accepted : judged image ≡ Ok g)
     (empty : data_end_of (label_at g image slot) ≡ start_of (label_at g image slot)) where
   abbrev label : List ℕ
   label = label_at g image slot
@@ -205,20 +200,20 @@ module _ (image : List ℕ) (g : Geometry) (slot : ℕ) (accepted : judged image
   unfolding listed join file_in blocks_from in_blocks
   only_end mode = rw no_block
 
-  unopened : (mode : Mode) (out : List ℕ) (x : Refusal) → open_refusal g image slot ≡ Stopped x → read_answer mode image slot start out ≡ Unanswered x
+  unopened : (mode : Mode) (out : List ℕ) (x : Refusal) → open_refusal g image slot ≡ Err x → read_answer mode image slot start out ≡ Err x
   unfolding reply
   unopened mode out x o =
-      ap (λ (v : Judged). (reply_on v mode image slot start (length out)).answer) accepted
-      ∙ ap (λ (c : Checked). (opened c (reply_in mode (file_in g image label) start (length out))).answer) o
+      ap (λ (v : Result Geometry Refusal). (reply_on v mode image slot start (length out)).answer) accepted
+      ∙ ap (λ (c : Result ⊤ Refusal). (opened c (reply_in mode (file_in g image label) start (length out))).answer) o
 
   pub no_record_heard : (mode : Mode) (k : ℕ) (out body : List ℕ) (more : List Heard) → following (suc k) mode image slot out start ≡ told body ∷ more → ⊥
   unfolding following heard_in
   no_record_heard mode k out body more h = go (open_refusal g image slot) refl
     where
-      go : (c : Checked) → open_refusal g image slot ≡ c → ⊥
-      go Passed o =
+      go : (c : Result ⊤ Refusal) → open_refusal g image slot ≡ c → ⊥
+      go (Ok _) o =
           let e = sym (reading_gives image g slot accepted o mode (suc k) out ∙ ap (λ (is : List Item). heard_in (length out) (take (suc k) is)) (only_end mode)) ∙ h in
           never (cc)
-      go (Stopped x) o =
-          let e = sym (ap (λ (q : Answer). onward q (output_after mode image slot start out) (λ out' pl'. following k mode image slot out' pl')) (unopened mode out x o)) ∙ h in
+      go (Err x) o =
+          let e = sym (ap (λ (q : Result Answer Refusal). onward q (output_after mode image slot start out) (λ out' pl'. following k mode image slot out' pl')) (unopened mode out x o)) ∙ h in
           never (cc)

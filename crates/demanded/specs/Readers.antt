@@ -1,7 +1,7 @@
 -- A FUNCTION THAT READS: that it meets the contract, what a caller hears of it, and what it is heard to give of a file whose sectors have failed. proofs/Readers proves
 -- what holds of any that meets its contract.
 -- Assumes nothing.
-use Rattle.std.specs.Prelude.{ℕ, zero, suc, ◌≡◌, Bool, length, take}
+use Rattle.std.specs.Prelude.{ℕ, zero, suc, ◌≡◌, Bool, length, take, Result}
 use mathlib.Core.List.{List, [], ◌∷◌, ◌++◌, map}
 use Rattle.standard.specs.Layout.{label_at}
 use Rattle.standard.specs.Files.{block_count, file_in}
@@ -18,11 +18,12 @@ use Rattle.promises.specs.Salvage.Failing.{gone, expected}
 use Rattle.promises.proofs.Salvage.PlainFailed.{FirstGone, NoneGone, cut_at}
 use Rattle.promises.proofs.Instances.{image}
 use Rattle.demanded.specs.Calls.{Response, Meets, Asked, ask, read, contract}
+use Rattle.standard.specs.declared.Refusal.{Refusal}
 use Rattle.demanded.specs.Called.{defined}
 
 -- A FUNCTION THAT READS, and that it meets the contract, of plain reading or of salvage
 abbrev pub Reader : Type 0
-Reader = Asked → Response Answer
+Reader = Asked → Response (Result Answer Refusal)
 
 abbrev pub Reads : Mode → Reader → Type 0
 Reads m r = Meets (contract (read m)) r

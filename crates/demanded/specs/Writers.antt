@@ -1,15 +1,15 @@
 -- A function that writes, and the first address of the next track. proofs/Writers proves what holds of any that meets its contract.
 -- Assumes nothing.
 use Prim.Native.Nat.{◌+◌, ◌<◌, ◌≤◌}
-use Rattle.std.specs.Prelude.{◌≡◌}
+use Rattle.std.specs.Prelude.{◌≡◌, ℕ, Result}
 use Rattle.standard.specs.declared.Geometry.{Geometry}
 use Rattle.standard.specs.declared.Address.{Address}
-use Rattle.standard.specs.declared.Written.{Written}
+use Rattle.standard.specs.declared.Refusal.{Refusal}
 use Rattle.demanded.specs.Calls.{Response, Meets, Given, write, contract}
 
 -- A FUNCTION THAT WRITES, and that it meets the contract
 abbrev pub Writer : Type 0
-Writer = Given → Response Written
+Writer = Given → Response (Result ℕ Refusal)
 
 abbrev pub Writes : Writer → Type 0
 Writes w = Meets (contract write) w

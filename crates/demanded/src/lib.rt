@@ -8,25 +8,24 @@ ghost use Rattle.galzeranta.specs.Asked.{place_of};
 ghost use Rattle.demanded.specs.Calls.{Allows, contract, exported, moved, named, in_slot, into, ask, give, want, stepping, moving};
 ghost use Rattle.demanded.specs.Calls as Calls;
 
-use standard::{
-    Address, Answer, Counted, Created, FiveDigits, Found, Geometry, Judged, Place, Written,
-};
+use standard::{Address, Answer, Created, Found, Geometry, Place, Refusal};
+use walks::Mode;
 
 // The calls on an image.
 
-pub fn judge(image: &[u8]) -> Judged
+pub fn judge(image: &[u8]) -> Result<Geometry, Refusal>
     ensures { Allows (contract Calls.judge) image.now result [] }
 {
     volume::judge(image)
 }
 
-pub fn find(image: &[u8], name: &[u8]) -> Found
+pub fn find(image: &[u8], name: &[u8]) -> Result<Found, Refusal>
     ensures { Allows (contract Calls.find) (named image.now name.now) result [] }
 {
     finding::find(image, name)
 }
 
-pub fn find_slot(image: &[u8], slot: u64) -> Found
+pub fn find_slot(image: &[u8], slot: u64) -> Result<Found, Refusal>
     ensures { Allows (contract Calls.find_slot) (in_slot image.now slot) result [] }
 {
     finding::find_slot(image, slot)
@@ -44,13 +43,13 @@ pub fn label_in_slot(image: &[u8], slot: u64) -> &[u8]
     finding::label_in_slot(image, slot)
 }
 
-pub fn free(image: &[u8]) -> Counted
+pub fn free(image: &[u8]) -> Result<u64, Refusal>
     ensures { Allows (contract Calls.free) image.now result [] }
 {
     vacancy::free(image)
 }
 
-pub fn count(image: &[u8], slot: u64) -> Counted
+pub fn count(image: &[u8], slot: u64) -> Result<u64, Refusal>
     ensures { Allows (contract Calls.count) (in_slot image.now slot) result [] }
 {
     files::count(image, slot)
@@ -62,13 +61,13 @@ pub fn list(image: &[u8], out: &mut [u8]) -> usize
     lines::list(image, out)
 }
 
-pub fn read(image: &[u8], slot: u64, place: Place, out: &mut [u8]) -> Answer
+pub fn read(image: &[u8], slot: u64, place: Place, out: &mut [u8]) -> Result<Answer, Refusal>
     ensures { Allows (contract (Calls.read plain)) (ask image.now slot place out.old) result out.new }
 {
     reading::read(image, slot, place, out)
 }
 
-pub fn salvage(image: &[u8], slot: u64, place: Place, out: &mut [u8]) -> Answer
+pub fn salvage(image: &[u8], slot: u64, place: Place, out: &mut [u8]) -> Result<Answer, Refusal>
     ensures { Allows (contract (Calls.read salvaging)) (ask image.now slot place out.old) result out.new }
 {
     reading::salvage(image, slot, place, out)
@@ -76,31 +75,36 @@ pub fn salvage(image: &[u8], slot: u64, place: Place, out: &mut [u8]) -> Answer
 
 // By an opened file: the same rows, however the image is carried.
 
-pub fn opened_read(image: &[u8], slot: u64, place: Place, out: &mut [u8]) -> Answer
+pub fn opened_read(image: &[u8], slot: u64, place: Place, out: &mut [u8]) -> Result<Answer, Refusal>
     ensures { Allows (contract (Calls.read plain)) (ask image.now slot place out.old) result out.new }
 {
-    opened::read_at(image, slot, place, out)
+    opened::ask_at(image, slot, Mode::Plain, place, out).answer
 }
 
-pub fn opened_salvage(image: &[u8], slot: u64, place: Place, out: &mut [u8]) -> Answer
+pub fn opened_salvage(
+    image: &[u8],
+    slot: u64,
+    place: Place,
+    out: &mut [u8],
+) -> Result<Answer, Refusal>
     ensures { Allows (contract (Calls.read salvaging)) (ask image.now slot place out.old) result out.new }
 {
-    opened::salvage_at(image, slot, place, out)
+    opened::ask_at(image, slot, Mode::Salvage, place, out).answer
 }
 
-pub fn write(image: &mut [u8], slot: u64, bodies: &[u8], lengths: &[u32]) -> Written
+pub fn write(image: &mut [u8], slot: u64, bodies: &[u8], lengths: &[u32]) -> Result<u64, Refusal>
     ensures { Allows (contract Calls.write) (give image.old slot bodies.now lengths.now) result image.new }
 {
     writing::write(image, slot, bodies, lengths)
 }
 
-pub fn create(image: &mut [u8], fields: &[u8], n: u64) -> Created
+pub fn create(image: &mut [u8], fields: &[u8], n: u64) -> Result<Created, Refusal>
     ensures { Allows (contract Calls.create) (want image.old fields.now n) result image.new }
 {
     creating::create(image, fields, n)
 }
 
-pub fn delete(image: &mut [u8], slot: u64) -> Counted
+pub fn delete(image: &mut [u8], slot: u64) -> Result<u64, Refusal>
     ensures { Allows (contract Calls.delete) (in_slot image.old slot) result image.new }
 {
     deleting::delete(image, slot)
@@ -190,7 +194,7 @@ pub fn address_step(a: Address, g: Geometry) -> Address
     a.step(g)
 }
 
-pub fn address_read(field: &[u8]) -> FiveDigits
+pub fn address_read(field: &[u8]) -> Option<Address>
     ensures { Allows (moved Calls.address_read) field.now result [] }
 {
     Address::read(field)

@@ -4,8 +4,9 @@
 ghost use Rattle.std.specs.Prelude.{◌≡◌, ◌+◌, ◌-◌, ◌<◌, ◌≤◌, length, take, drop};
 ghost use Rattle.standard.specs.Writing.{splice};
 ghost use Rattle.standard.specs.Creating.{proposed, proposal_fault};
-ghost use Rattle.promises.specs.Making.AddedRows.{added};
+ghost use Rattle.fields.specs.Numbers.{fault_in};
 ghost use Rattle.promises.specs.Making.Drafts.{given_laid, extent_laid};
+ghost use Rattle.drafting.specs.Added.{added_to};
 
 use labels::known_level;
 use relabel::{lay_at, put_address};
@@ -55,28 +56,22 @@ pub fn draft(wanted: &[u8], start: Address, end: Address) -> [u8; 128]
 }
 
 // A condition more at a position: where it does not hold, the lower of the two faults. "the lowest first"
-fn lowered(position: u64, holds: bool, fault: u64) -> u64
-    ensures { result ≡ added position holds fault }
+fn lowered(position: u64, holds: bool, fault: Option<u64>) -> Option<u64>
+    ensures { result ≡ added_to position holds fault }
 {
     if holds {
         return fault;
     }
-    if fault == 0 {
-        return position;
-    }
-    if position < fault {
-        return position;
-    }
-    fault
+    Some(fault.unwrap_or(position).min(position))
 }
 
-// "10 for the proposed label, with slot 0 (a level other than space, 1, 2 counts at 44, n = 0 at 35, other than 29 bytes at 6)": the position at fault, 0 for none.
+// "10 for the proposed label, with slot 0 (a level other than space, 1, 2 counts at 44, n = 0 at 35, other than 29 bytes at 6)": the position at fault.
 // Where the extent will lie is not known yet: 01001 stands for it.
-pub fn proposal_fault(g: Geometry, wanted: &[u8], n: u64) -> u64
-    ensures { result ≡ proposal_fault g wanted.now n }
+pub fn proposal_fault(g: Geometry, wanted: &[u8], n: u64) -> Option<u64>
+    ensures { result ≡ fault_in (proposal_fault g wanted.now n) }
 {
     if wanted.len() != 29 {
-        return 6;
+        return Some(6);
     }
     let first = Address::first();
     let label = draft(wanted, first, first);

@@ -7,21 +7,50 @@ use mathlib.Core.List.{List, [], ◌∷◌}
 use lib.ListN.{length, drop}
 use lib.Seq.{drop-nil}
 use lib.Dec.{eqb}
+use mir.Val.{bool_byte}
 use borrow.Author.Tests.{ne_eqb, eqb-true, eqb-false}
 use native.Mathlib.Omega.{arith}
 use native.Mathlib.Numerals.{unary_clauses}
-use Rattle.standard.specs.Layout.{incorrect_mark, first_byte}
+use Rattle.standard.specs.Layout.{kind_offset, incorrect_mark, first_byte}
 use Rattle.standard.specs.Addresses.{legal, stepped, ordinal}
 use Rattle.standard.specs.Files.{addresses_from, good_among, is_defective, is_wrong}
 use Rattle.standard.specs.declared.Geometry.{Geometry}
 use Rattle.standard.specs.declared.Address.{Address}
 use Rattle.promises.specs.Ground.Basics.{by_test, and_l, and_r, or_l, or_r}
-use Rattle.extents.specs.Cursors.{legal_on, good_from, standing}
+use Rattle.extents.specs.Cursors.{legal_on, good_from, standing, Walks}
 use Rattle.extents.specs.declared.Cursor.{Cursor}
+use Rattle.extents.specs.declared.Flaw.{Flaw}
+use Rattle.extents.specs.declared.Walk.{Walk}
+use Rattle.extents.specs.declared.Flaw.TheVariants.{Good, Defective, Wrong}
 
--- the number of one look at a record: `w` it is wrong, `d` it is defective
-abbrev pub flaw : Bool → Bool → ℕ
-flaw w d = cond w 2 (cond d 1 0)
+-- what one look at a record tells: `w` it is wrong, `d` it is defective
+abbrev pub flaw : Bool → Bool → Flaw
+flaw w d = cond w Wrong (cond d Defective Good)
+
+module _ (A : Type 0) where
+  good_wrong : Good ≡ Wrong → A
+  good_wrong e = let z : ◌≡◌ {A = ℕ} 0 1 = cc in absurd (omega arith)
+
+  good_defective : Good ≡ Defective → A
+  good_defective e = let z : ◌≡◌ {A = ℕ} 0 1 = cc in absurd (omega arith)
+
+  defective_wrong : Defective ≡ Wrong → A
+  defective_wrong e = let z : ◌≡◌ {A = ℕ} 0 1 = cc in absurd (omega arith)
+
+pub flaw_wrong : (w d : Bool) → flaw w d ≡ Wrong → w ≡ true
+flaw_wrong true d e = refl
+flaw_wrong false true e = defective_wrong _ e
+flaw_wrong false false e = good_wrong _ e
+
+pub flaw_defective : (w d : Bool) → flaw w d ≡ Defective → (w ≡ false) × (d ≡ true)
+flaw_defective true d e = defective_wrong _ (sym e)
+flaw_defective false true e = (refl, refl)
+flaw_defective false false e = good_defective _ e
+
+pub flaw_good : (w d : Bool) → flaw w d ≡ Good → (w ≡ false) × (d ≡ false)
+flaw_good true d e = good_wrong _ (sym e)
+flaw_good false true e = good_defective _ (sym e)
+flaw_good false false e = (refl, refl)
 
 -- what the mark and the first byte say of a record
 module _ (g : Geometry) (image : List ℕ) (a : Address) where
@@ -33,17 +62,17 @@ module _ (g : Geometry) (image : List ℕ) (a : Address) where
   unfolding is_defective
   defect_first h = simp h
 
-  pub flaw_none : incorrect_mark g image (ordinal g a) ≡ false → flaw (is_wrong g image a) (is_defective g image a) ≡ 0
+  pub look_none : incorrect_mark g image (ordinal g a) ≡ false → flaw (is_wrong g image a) (is_defective g image a) ≡ Good
   unfolding is_defective is_wrong
-  flaw_none h = simp h
+  look_none h = simp h
 
-  pub flaw_first : incorrect_mark g image (ordinal g a) ≡ true → first_byte g image (ordinal g a) ≡ 70 → flaw (is_wrong g image a) (is_defective g image a) ≡ 1
+  pub look_first : incorrect_mark g image (ordinal g a) ≡ true → first_byte g image (ordinal g a) ≡ 70 → flaw (is_wrong g image a) (is_defective g image a) ≡ Defective
   unfolding is_defective is_wrong
-  flaw_first h f = simp (h, f)
+  look_first h f = simp (h, f)
 
-  pub flaw_other : incorrect_mark g image (ordinal g a) ≡ true → (first_byte g image (ordinal g a) ≡ 70 → ⊥) → flaw (is_wrong g image a) (is_defective g image a) ≡ 2
+  pub look_other : incorrect_mark g image (ordinal g a) ≡ true → (first_byte g image (ordinal g a) ≡ 70 → ⊥) → flaw (is_wrong g image a) (is_defective g image a) ≡ Wrong
   unfolding is_defective is_wrong
-  flaw_other h f = simp (h, ne_eqb (first_byte g image (ordinal g a)) 70 f)
+  look_other h f = simp (h, ne_eqb (first_byte g image (ordinal g a)) 70 f)
 
 -- a cursor with an address left
 pub first_legal : (g : Geometry) (left : ℕ) (a : Address) → legal_on g (suc left) a ≡ true → (legal g a ≡ true) × (legal_on g left (stepped g a) ≡ true)
@@ -57,6 +86,10 @@ legal_head g (suc n) a l h = (first_legal g n a h).0
 pub legal_next : (g : Geometry) (left : ℕ) (a : Address) → 0 < left → legal_on g left a ≡ true → legal_on g (left - 1) (stepped g a) ≡ true
 legal_next g zero a l h = absurd (omega arith)
 legal_next g (suc n) a l h = simp unary_clauses (first_legal g n a h).1
+
+-- a walk with an address left stands at a record of the image, and knows where its kind is
+pub walk_here : (g : Geometry) (w : Walk) → Walks g w → 0 < w.left → (legal g w.at ≡ true) × (w.kind ≡ kind_offset g (ordinal g w.at))
+walk_here g w s l = (legal_head g w.left w.at l s.legal, s.stands)
 
 pub good_skip : (g : Geometry) (image : List ℕ) (left : ℕ) (a : Address) → 0 < left → is_defective g image a ≡ true
     → good_from g image (left - 1) (stepped g a) ≡ good_from g image left a
@@ -137,10 +170,17 @@ none_past g image i left a l =
     let e = stand_none g image (record { at = a; left = 0 }) (omega arith) in
     e ∙ sym (ap (drop i) (sym (good_none g image left a l) ∙ e) ∙ drop-nil i)
 
--- what counts is not more than what there is to count
-pub must_count : (bad : Bool) (i k : ℕ) → (not bad && eqb i 0) ≡ false → k ≡ cond bad 0 1 → k ≤ i
-must_count true i k h e = omega (arith, e)
-must_count false i k h e = let n = eqb-false i 0 h in omega (arith, e, n)
+-- what a record counts
+pub counts : (g : Geometry) (image : List ℕ) (a : Address) (bad : Bool) (k : ℕ) → bad ≡ is_defective g image a → k ≡ bool_byte (not bad) → k ≡ cond (is_defective g image a) 0 1
+counts g image a bad k d e = e ∙ one bad ∙ ap (λ (b : Bool). cond b 0 1) d
+  where
+    one : (b : Bool) → bool_byte (not b) ≡ cond b 0 1
+    one true = refl
+    one false = refl
+
+pub one_at_most : (b : Bool) (k : ℕ) → k ≡ bool_byte b → k ≤ 1
+one_at_most true k e = omega (arith, e)
+one_at_most false k e = omega (arith, e)
 
 -- nothing to pass, or nothing to pass it by
 pub some_of : (a b : ℕ) → (eqb a 0 || eqb b 0) ≡ false → (0 < a) × (0 < b)

@@ -1,10 +1,10 @@
 -- One step of a survey, its ends, and what its answer says of the extent.
 -- Assumes nothing.
+use Rattle.std.specs.Prelude.{Result, Ok, Err}
 use Prim.Native.Nat.{ℕ, suc, zero, ◌-◌, ◌<◌, ◌≤◌}
 use mathlib.Core.Path.{◌≡◌, refl, sym, ap, ◌∙◌}
-use mathlib.Core.Bool.{Bool, true, false, cond, ◌||◌}
+use mathlib.Core.Bool.{Bool, true, false, not, ◌||◌, or-true, or-false}
 use mathlib.Core.List.{List, [], ◌∷◌}
-use lib.Dec.{eqb}
 use native.Mathlib.Omega.{arith}
 use native.Mathlib.Numerals.{unary_clauses}
 use Rattle.standard.specs.Addresses.{stepped, ordinal}
@@ -12,37 +12,37 @@ use Rattle.standard.specs.Files.{addresses_from, is_defective, good_among, is_wr
 use Rattle.standard.specs.declared.Geometry.{Geometry}
 use Rattle.standard.specs.declared.Address.{Address}
 use Rattle.standard.specs.Refusals.{refuse}
-use Rattle.standard.specs.declared.Checked.TheVariants.{Passed, Stopped}
 use Rattle.promises.specs.Ground.Basics.{by_test, or_l, or_r}
 use Rattle.extents.specs.Surveys.{surveyed}
-use Rattle.extents.specs.declared.Condition.{Condition}
-use Rattle.extents.specs.declared.Condition.TheVariants.{Wrong, Whole, Holed}
-use Rattle.extents.proofs.CursorLaws.{flaw}
+use Rattle.standard.specs.declared.Refusal.{Refusal}
 
--- what the number of one look says
-pub flaw_stop : (w d : Bool) → flaw w d ≡ 2 → w ≡ true
-flaw_stop true d e = refl
-flaw_stop false true e = absurd (omega (arith, e))
-flaw_stop false false e = absurd (omega (arith, e))
-
-pub flaw_more : (w d : Bool) → (flaw w d ≡ 2 → ⊥) → (w ≡ false) × (eqb (flaw w d) 1 ≡ d)
-flaw_more true d e = absurd (e refl)
-flaw_more false true e = (refl, refl)
-flaw_more false false e = (refl, refl)
+or_more : (holed d b : Bool) → d ≡ b → (holed || d) ≡ (holed || b)
+or_more holed d b e = ap (λ (x : Bool). holed || x) e
 
 module _ (g : Geometry) (image : List ℕ) (holed : Bool) where
-  pub survey_more : (left : ℕ) (a : Address) → 0 < left → is_wrong g image a ≡ false
+  survey_more : (left : ℕ) (a : Address) → 0 < left → is_wrong g image a ≡ false
       → surveyed g image holed (addresses_from g left a) ≡ surveyed g image (holed || is_defective g image a) (addresses_from g (left - 1) (stepped g a))
   unfolding surveyed addresses_from
   survey_more zero a l h = absurd (omega arith)
   survey_more (suc n) a l h = simp (unary_clauses, h)
 
-  pub survey_stop : (left : ℕ) (a : Address) → 0 < left → is_wrong g image a ≡ true → surveyed g image holed (addresses_from g left a) ≡ Wrong (ordinal g a)
+  -- by what one look at the record told
+  pub survey_hole : (left : ℕ) (a : Address) → 0 < left → (is_wrong g image a ≡ false) × (is_defective g image a ≡ true)
+      → surveyed g image holed (addresses_from g left a) ≡ surveyed g image true (addresses_from g (left - 1) (stepped g a))
+  survey_hole left a l h =
+      survey_more left a l h.0 ∙ ap (λ (b : Bool). surveyed g image b (addresses_from g (left - 1) (stepped g a))) (or_more holed _ _ h.1 ∙ or-true holed)
+
+  pub survey_good : (left : ℕ) (a : Address) → 0 < left → (is_wrong g image a ≡ false) × (is_defective g image a ≡ false)
+      → surveyed g image holed (addresses_from g left a) ≡ surveyed g image holed (addresses_from g (left - 1) (stepped g a))
+  survey_good left a l h =
+      survey_more left a l h.0 ∙ ap (λ (b : Bool). surveyed g image b (addresses_from g (left - 1) (stepped g a))) (or_more holed _ _ h.1 ∙ or-false holed)
+
+  pub survey_stop : (left : ℕ) (a : Address) → 0 < left → is_wrong g image a ≡ true → surveyed g image holed (addresses_from g left a) ≡ Err (refuse 17 (ordinal g a))
   unfolding surveyed addresses_from
   survey_stop zero a l h = absurd (omega arith)
   survey_stop (suc n) a l h = simp h
 
-  pub survey_end : (left : ℕ) (a : Address) → left ≤ 0 → surveyed g image holed (addresses_from g left a) ≡ cond holed Holed Whole
+  pub survey_end : (left : ℕ) (a : Address) → left ≤ 0 → surveyed g image holed (addresses_from g left a) ≡ Ok (not holed)
   unfolding surveyed addresses_from
   survey_end zero a l = refl
   survey_end (suc n) a l = absurd (omega arith)
@@ -63,32 +63,27 @@ next g image holed a more h = simp h
 
 -- what the answer says, a record at a time
 pub record Says (g : Geometry) (image : List ℕ) (holed : Bool) (xs : List Address) : Type 0 where
-  pub wrong : (o : ℕ) → surveyed g image holed xs ≡ Wrong o → wrong_among g image xs ≡ Stopped (refuse 17 o)
-  pub holes : surveyed g image holed xs ≡ Holed → wrong_among g image xs ≡ Passed
-  pub whole : surveyed g image holed xs ≡ Whole → (holed ≡ false) × (wrong_among g image xs ≡ Passed) × (good_among g image xs ≡ xs)
+  pub wrong : (r : Refusal) → surveyed g image holed xs ≡ Err r → wrong_among g image xs ≡ Err r
+  pub holes : surveyed g image holed xs ≡ Ok false → wrong_among g image xs ≡ Ok tt
+  pub whole : surveyed g image holed xs ≡ Ok true → (holed ≡ false) × (wrong_among g image xs ≡ Ok tt) × (good_among g image xs ≡ xs)
 
 -- no answer is another
-holed_wrong : (o : ℕ) → Holed ≡ Wrong o → ⊥
-holed_wrong o e = let z : ◌≡◌ {A = ℕ} 0 1 = cc in omega arith
+told_wrong : (b : Bool) (r : Refusal) → ◌≡◌ {A = Result Bool Refusal} (Ok b) (Err r) → ⊥
+told_wrong b r e = let z : ◌≡◌ {A = ℕ} 0 1 = cc in omega arith
 
-whole_wrong : (o : ℕ) → Whole ≡ Wrong o → ⊥
-whole_wrong o e = let z : ◌≡◌ {A = ℕ} 0 1 = cc in omega arith
-
-holed_whole : Holed ≡ Whole → ⊥
+holed_whole : ◌≡◌ {A = Result Bool Refusal} (Ok false) (Ok true) → ⊥
 holed_whole e = let z : ◌≡◌ {A = ℕ} 0 1 = cc in omega arith
 
-abbrev ordinal_in : Condition → ℕ
-ordinal_in (Wrong o) = o
-ordinal_in Whole = 0
-ordinal_in Holed = 0
+same_refusal : (r s : Refusal) → ◌≡◌ {A = Result Bool Refusal} (Err r) (Err s) → r ≡ s
+same_refusal r s e = cc
 
 says_none : (g : Geometry) (image : List ℕ) (holed : Bool) → Says g image holed []
 unfolding surveyed wrong_among good_among
-says_none g image true = record { wrong = λ o e. absurd (holed_wrong o e); holes = λ e. refl; whole = λ e. absurd (holed_whole e) }
-says_none g image false = record { wrong = λ o e. absurd (whole_wrong o e); holes = λ e. refl; whole = λ e. (refl, refl, refl) }
+says_none g image true = record { wrong = λ r e. absurd (told_wrong false r e); holes = λ e. refl; whole = λ e. absurd (holed_whole e) }
+says_none g image false = record { wrong = λ r e. absurd (told_wrong true r e); holes = λ e. refl; whole = λ e. (refl, refl, refl) }
 
 stop : (g : Geometry) (image : List ℕ) (holed : Bool) (a : Address) (more : List Address) → is_wrong g image a ≡ true
-    → (surveyed g image holed (a ∷ more) ≡ Wrong (ordinal g a)) × (wrong_among g image (a ∷ more) ≡ Stopped (refuse 17 (ordinal g a)))
+    → (surveyed g image holed (a ∷ more) ≡ Err (refuse 17 (ordinal g a))) × (wrong_among g image (a ∷ more) ≡ Err (refuse 17 (ordinal g a)))
 unfolding surveyed wrong_among
 stop g image holed a more h = (simp h, simp h)
 
@@ -96,9 +91,9 @@ says_wrong : (g : Geometry) (image : List ℕ) (holed : Bool) (a : Address) (mor
 says_wrong g image holed a more h =
     let s = stop g image holed a more h in
     record {
-      wrong = λ o k. s.1 ∙ ap (λ (n : ℕ). Stopped (refuse 17 n)) (ap ordinal_in (sym s.0 ∙ k));
-      holes = λ k. absurd (holed_wrong (ordinal g a) (sym k ∙ s.0));
-      whole = λ k. absurd (whole_wrong (ordinal g a) (sym k ∙ s.0));
+      wrong = λ r k. s.1 ∙ ap Err (same_refusal _ _ (sym s.0 ∙ k));
+      holes = λ k. absurd (told_wrong false _ (sym k ∙ s.0));
+      whole = λ k. absurd (told_wrong true _ (sym k ∙ s.0));
     }
 
 says_more : (g : Geometry) (image : List ℕ) (holed : Bool) (a : Address) (more : List Address) → is_wrong g image a ≡ false → Says g image (holed || is_defective g image a) more
@@ -107,7 +102,7 @@ says_more g image holed a more h s =
     let e = next g image holed a more h in
     let w = wrong_rest g image a more h in
     record {
-      wrong = λ o k. w ∙ s.wrong o (sym e ∙ k);
+      wrong = λ r k. w ∙ s.wrong r (sym e ∙ k);
       holes = λ k. w ∙ s.holes (sym e ∙ k);
       whole = λ k.
           let r = s.whole (sym e ∙ k) in

@@ -1,17 +1,20 @@
--- One turn of the loops `all_of`, `same_as` and `decimal_in`, and their ends.
+-- One turn of the loops `decimal_in`, `number_in` and `hex_in`, and their ends; what the library's tests of items say.
 -- Assumes nothing.
-use Prim.Native.Nat.{ℕ, suc, ◌+◌, ◌*◌, ◌^◌, ◌≤◌, ◌<◌}
-use mathlib.Core.Path.{◌≡◌, refl, ap}
+use Prim.Native.Nat.{ℕ, ◌+◌, ◌*◌, ◌^◌, ◌≤◌, ◌<◌}
+use mathlib.Core.Path.{◌≡◌, refl}
 use mathlib.Core.List.{List, [], ◌∷◌}
-use mathlib.Core.Bool.{Bool, true, false, not, and-false}
+use mathlib.Core.Bool.{Bool, true, false, not}
 use native.Mathlib.Numerals.{add-one}
 use native.Mathlib.Omega.{arith}
 use native.Mathlib.Nat.{pow-suc, pow-le-pow_right}
-use borrow.Author.Tests.{eq-eqb, ne_eqb, leb-true, not-true, not-false}
+use borrow.Author.Tests.{leb-true, not-true, not-false}
 use lib.Dec.{eqb, leb}
 use lib.ListN.{length, drop, get_or, drop_of_length-le}
 use lib.Seq.{drop-cons}
-use Rattle.standard.specs.Characters.{every, same, is_digit, digit_value, number_from}
+use Rattle.standard.specs.Characters.{one_of, every, same, is_digit, digit_value, number_from, hex_value, hex_from}
+use Rattle.std.specs.Prelude.{nat_eq}
+use Rattle.std.specs.List.{list_all, list_any}
+use Rattle.std.specs.Cmp.Lexicographic.{pointwise}
 use Rattle.promises.specs.Ground.Basics.{and_r}
 
 module _ (test : ℕ → Bool) (s : List ℕ) (i : ℕ) where
@@ -27,25 +30,23 @@ module _ (test : ℕ → Bool) (s : List ℕ) (i : ℕ) where
   unfolding every
   every_end h = rw (drop_of_length-le s h)
 
-module _ (s w : List ℕ) (i : ℕ) where
-  pub same_more : i < length s → i < length w → get_or s i 0 ≡ get_or w i 0 → same (drop i s) (drop i w) ≡ same (drop (i + 1) s) (drop (i + 1) w)
-  unfolding same
-  same_more h k t = rw (drop-cons s i 0, drop-cons w i 0, add-one) (simp (eq-eqb (get_or s i 0) (get_or w i 0) t))
+-- what the library's tests of items say in the words of the standard
+pub every_all : (test : ℕ → Bool) (s : List ℕ) → list_all test s ≡ every test s
+unfolding every
+every_all test [] = refl
+every_all test (x ∷ s) = rw (every_all test s)
 
-  pub same_stop : i < length s → i < length w → (get_or s i 0 ≡ get_or w i 0 → ⊥) → same (drop i s) (drop i w) ≡ false
-  unfolding same
-  same_stop h k t = rw (drop-cons s i 0, drop-cons w i 0) (simp (ne_eqb (get_or s i 0) (get_or w i 0) t))
+pub one_of_any : (c : ℕ) (xs : List ℕ) → list_any (λ x. eqb c x) xs ≡ one_of xs c
+unfolding one_of
+one_of_any c [] = refl
+one_of_any c (x ∷ xs) = rw (one_of_any c xs)
 
-  pub same_end : length s ≤ i → length w ≤ i → same (drop i s) (drop i w) ≡ true
-  unfolding same
-  same_end h k = rw (drop_of_length-le s h, drop_of_length-le w k)
-
-pub same_lengths : (s w : List ℕ) → (length s ≡ length w → ⊥) → same s w ≡ false
+pub same_pointwise : (s w : List ℕ) → pointwise nat_eq s w ≡ same s w
 unfolding same
-same_lengths [] [] n = search (n, refl)
-same_lengths [] (y ∷ w) n = refl
-same_lengths (x ∷ s) [] n = refl
-same_lengths (x ∷ s) (y ∷ w) n = simp (same_lengths s w (λ e. n (ap suc e))) (and-false (eqb x y))
+same_pointwise [] [] = refl
+same_pointwise [] (y ∷ w) = refl
+same_pointwise (x ∷ s) [] = refl
+same_pointwise (x ∷ s) (y ∷ w) = rw (same_pointwise s w)
 
 -- the number so far, and its bound
 module _ (f : List ℕ) (n i : ℕ) where
@@ -57,11 +58,31 @@ module _ (f : List ℕ) (n i : ℕ) where
   unfolding number_from
   number_end h = rw (drop_of_length-le f h)
 
-pub power_most : (i : ℕ) → i ≤ 9 → 10 ^ i ≤ 1000000000
-power_most i h = pow-le-pow_right {n = 10} (omega arith) {j = 9} h
+  pub hex_more : i < length f → hex_from n (drop i f) ≡ hex_from (n * 16 + hex_value (get_or f i 0)) (drop (i + 1) f)
+  unfolding hex_from
+  hex_more h = rw (drop-cons f i 0, add-one)
 
+  pub hex_end : length f ≤ i → hex_from n (drop i f) ≡ n
+  unfolding hex_from
+  hex_end h = rw (drop_of_length-le f h)
+
+-- two digits at most
+pub power_two : (i : ℕ) → i ≤ 2 → 16 ^ i ≤ 256
+power_two i h = pow-le-pow_right {n = 16} (omega arith) {j = 2} h
+
+-- one character more, of digits and of any bytes
 pub bound_more : (n d i : ℕ) → n < 10 ^ i → d < 10 → n * 10 + d < 10 ^ (i + 1)
 bound_more n d i h k = rw (add-one) (omega (arith, pow-suc 10 i))
+
+pub bytes_more : (n d i : ℕ) → n + 29 ≤ 29 * 10 ^ i → d < 256 → n * 10 + d + 29 ≤ 29 * 10 ^ (i + 1)
+bytes_more n d i h k = rw (add-one) (omega (arith, pow-suc 10 i))
+
+pub hex_bytes_more : (n d i : ℕ) → n * 15 + 511 ≤ 511 * 16 ^ i → d < 512 → (n * 16 + d) * 15 + 511 ≤ 511 * 16 ^ (i + 1)
+hex_bytes_more n d i h k = rw (add-one) (omega (arith, pow-suc 16 i))
+
+-- and of one alone
+pub hex_one : (n i : ℕ) → n * 15 + 511 ≤ 511 * 16 ^ i → i ≤ 1 → n < 512
+hex_one n i h l = let p : 16 ^ i ≤ 16 ^ 1 = pow-le-pow_right {n = 16} (omega arith) {j = 1} l in omega (arith, h, p)
 
 pub digit_most : (c : ℕ) → is_digit c ≡ true → digit_value c < 10
 unfolding is_digit digit_value

@@ -1,5 +1,6 @@
 -- What an accepted volume gives to whoever counts a file's blocks.
 -- Assumes nothing.
+use Rattle.std.specs.Prelude.{Ok}
 use Prim.Native.Nat.{ℕ, ◌<◌, ◌≤◌}
 use mathlib.Core.Path.{◌≡◌}
 use mathlib.Core.Bool.{true}
@@ -12,7 +13,6 @@ use Rattle.standard.specs.Files.{extent_size}
 use Rattle.standard.specs.Slots.{has_label}
 use Rattle.standard.specs.Judgement.{judged}
 use Rattle.standard.specs.declared.Geometry.{Geometry}
-use Rattle.standard.specs.declared.Judged.TheVariants.{Volume}
 use Rattle.promises.specs.Images.AddressLaws.{rank_lt}
 use Rattle.promises.specs.Volumes.AcceptedLaws.{label_faultless, label_in_range}
 use Rattle.promises.specs.Volumes.LabelRules.{data_end_behind}
@@ -29,7 +29,7 @@ unfolding extent_size
 size_few g h l n = omega (arith, rank_lt g (end_of h) l)
 
 -- a label of level space, 1 or 2, ready to be counted
-module _ (image : List ℕ) (g : Geometry) (slot : ℕ) (j : judged image ≡ Volume g) (l : has_label g image slot ≡ true) (kn : known_level (label_at g image slot) ≡ true) where
+module _ (image : List ℕ) (g : Geometry) (slot : ℕ) (j : judged image ≡ Ok g) (l : has_label g image slot ≡ true) (kn : known_level (label_at g image slot) ≡ true) where
   pub behind : rank g (start_of (label_at g image slot)) ≤ rank g (data_end_of (label_at g image slot))
   behind = data_end_behind g (label_at g image slot) (label_faultless image g slot j l) kn
 

@@ -2,7 +2,8 @@
 -- Assumes nothing.
 use Prim.Native.Nat.{ℕ, zero, suc, ◌+◌, ◌-◌, ◌/◌, ◌%◌, ◌<◌, ◌≤◌}
 use mathlib.Core.Path.{◌≡◌, refl, sym, ap, ◌∙◌}
-use mathlib.Core.Bool.{true, false, not, ◌&&◌, ◌||◌}
+use Rattle.std.specs.Prelude.{Result, Ok, Err}
+use mathlib.Core.Bool.{Bool, true, false, not, ◌&&◌, ◌||◌}
 use mathlib.Core.List.{List, [], ◌∷◌}
 use lib.ListN.{length}
 use lib.Dec.{ltb, eqb}
@@ -15,6 +16,7 @@ use Rattle.standard.specs.Refusals.{given_when, in_order}
 use Rattle.standard.specs.Files.{addresses_from, extent_size, extent, is_defective, good_among, good_records, records_to_block, count_before, good_before, data_end_at_start, data_end_in_extent, blocks_held, block_count, refusal17, splits_block, refusal18, count_or}
 use Rattle.standard.specs.declared.Geometry.{Geometry}
 use Rattle.standard.specs.declared.Address.{Address}
+use Rattle.standard.specs.declared.Refusal.{Refusal}
 use Rattle.promises.specs.Ground.Basics.{either, lt_or_le, by_test}
 use Rattle.promises.specs.Ground.Lists.{Every}
 use Rattle.promises.specs.Images.AddressLaws.{Legal, step_rank}
@@ -22,8 +24,6 @@ use Rattle.promises.specs.Volumes.AcceptedLaws.{InRange}
 use Rattle.promises.specs.Extents.ExtentAddresses.{extent_legal}
 use Rattle.extents.specs.Cursors.{legal_on, good_from}
 use Rattle.extents.specs.Surveys.{surveyed}
-use Rattle.extents.specs.declared.Condition.{Condition}
-use Rattle.extents.specs.declared.Condition.TheVariants.{Wrong, Whole, Holed}
 use Rattle.extents.proofs.CursorLaws.{first_legal, good_empty}
 use Rattle.extents.proofs.SurveyLaws.{Says, says}
 use Rattle.extents.proofs.RankLaws.{whole_front}
@@ -162,12 +162,12 @@ module _ (g : Geometry) (image h : List ℕ) where
         s : Says g image false (addresses_from g (extent_size g h) (start_of h))
         s = says g image false (addresses_from g (extent_size g h) (start_of h))
 
-        go : (k : Condition) → surveyed g image false (addresses_from g (extent_size g h) (start_of h)) ≡ k
+        go : (k : Result Bool Refusal) → surveyed g image false (addresses_from g (extent_size g h) (start_of h)) ≡ k
             → count_or (in_order (refusal17 g image h ∷ refusal18 g image h slot ∷ [])) (block_count g image h) ≡ tallied g image (numbers_of g h) slot
-        go (Wrong n) e = rw (s.wrong n e) (sym (tally_by g image (numbers_of g h) slot (Wrong n) e))
-        go Whole e =
+        go (Err r) e = rw (s.wrong r e) (sym (tally_by g image (numbers_of g h) slot (Err r) e))
+        go (Ok true) e =
             let w = s.whole e in
             rw w.1
             (ended_is slot ∙ ap (ended_by (numbers_of g h) slot) (whole_front g image (size_before g h) (extent_size g h) (start_of h) size_most w.2)
-            ∙ sym (tally_by g image (numbers_of g h) slot Whole e))
-        go Holed e = rw (s.holes e) (ended_is slot ∙ sym (tally_by g image (numbers_of g h) slot Holed e))
+            ∙ sym (tally_by g image (numbers_of g h) slot (Ok true) e))
+        go (Ok false) e = rw (s.holes e) (ended_is slot ∙ sym (tally_by g image (numbers_of g h) slot (Ok false) e))

@@ -8,15 +8,15 @@ ghost use Rattle.extents.specs.Cursors.{legal_on};
 ghost use Rattle.extents.specs.Surveys.{surveyed};
 ghost use Rattle.files.specs.Numbers.{numbers_of, ended_by, tallied};
 
-use extents::{Condition, Cursor, count_good, survey};
-use fields::{minus, wide16};
+use extents::{Cursor, count_good, survey};
+use fields::minus;
 use finding::known_file;
 use labels::{
     block_length, data_end_rank, end_rank, record_length, start_of, start_rank, unused_count,
 };
 use layout::label_at;
-use standard::{Address, Checked, Counted, Geometry, Judged, Refusal};
-use volume::{judge, refusal_of};
+use standard::{Address, Geometry, Refusal};
+use volume::judge;
 
 // What a label says of its file, with what follows from it: m, "blocks take m good records in turn"; the extent, from `start` on `size` addresses; whether the
 // data end lies `inside` it; and how many addresses lie `before` the data end.
@@ -38,7 +38,7 @@ fn records_to_block(g: Geometry, h: &[u8]) -> u64
     ensures { result ≡ records_to_block g h.now }
 {
     let b = block_length(h);
-    let p = wide16(g.P);
+    let p = u64::from(g.P);
     if p < b {
         return b / p;
     }
@@ -70,53 +70,57 @@ pub fn numbers_of(g: Geometry, h: &[u8]) -> Numbers
         U: unused_count(h),
         m: records_to_block(g, h),
         start: start_of(h),
-        size: size,
+        size,
         inside: end <= last,
         before: before_end(end, first, last, size),
     }
 }
 
 // Refusal 18, or the number of blocks that so many good records before the data end make.
-fn ended(n: Numbers, slot: u64, good: u64) -> Counted
+fn ended(n: Numbers, slot: u64, good: u64) -> Result<u64, Refusal>
     requires { 0 < n.m }
     ensures { result ≡ ended_by n slot good }
 {
     let m = n.m;
     let unused = n.U;
     let blocks = good / m;
-    let parted = n.inside & !(good % m == 0);
+    let parted = n.inside & (good % m != 0);
     if parted | ((0 < unused) & (blocks == 0)) {
-        return Counted::Uncounted(Refusal::at(18, slot));
+        return Err(Refusal::at(18, slot));
     }
-    Counted::Count(blocks)
+    Ok(blocks)
 }
 
 // Refusals 17 and 18, or the number of blocks, from what one walk over the extent found: where it found no defective record, good records need no counting.
 // (Inner: opening asks it, to walk once.)
-pub fn tally_by(g: Geometry, image: &[u8], n: Numbers, slot: u64, found: Condition) -> Counted
+pub fn tally_by(
+    g: Geometry,
+    image: &[u8],
+    n: Numbers,
+    slot: u64,
+    found: Result<bool, Refusal>,
+) -> Result<u64, Refusal>
     requires { (0 < n.m) × (n.before ≤ n.size) × (n.size < 4294967296) × (legal_on g n.size n.start ≡ true) × (found ≡ surveyed g image.now false (addresses_from g n.size n.start)) }
     ensures { result ≡ tallied g image.now n slot }
 {
     let start = n.start;
-    match found {
-        Condition::Wrong(ordinal) => Counted::Uncounted(Refusal::at(17, ordinal)),
-        Condition::Whole => ended(n, slot, n.before),
-        Condition::Holed => {
-            let good = count_good(
-                g,
-                image,
-                Cursor {
-                    at: start,
-                    left: n.before,
-                },
-            );
-            ended(n, slot, good)
-        }
+    let whole = found?;
+    if whole {
+        return ended(n, slot, n.before);
     }
+    let good = count_good(
+        g,
+        image,
+        Cursor {
+            at: start,
+            left: n.before,
+        },
+    );
+    ended(n, slot, good)
 }
 
 // Refusals 17 and 18, or the number of blocks, by one walk.
-fn tally(g: Geometry, image: &[u8], n: Numbers, slot: u64) -> Counted
+fn tally(g: Geometry, image: &[u8], n: Numbers, slot: u64) -> Result<u64, Refusal>
     requires { (0 < n.m) × (n.before ≤ n.size) × (n.size < 4294967296) × (legal_on g n.size n.start ≡ true) }
     ensures { result ≡ tallied g image.now n slot }
 {
@@ -133,24 +137,18 @@ fn tally(g: Geometry, image: &[u8], n: Numbers, slot: u64) -> Counted
 }
 
 // Refusals 13 and 14, then 17 and 18, or the number of blocks: "the count of blocks needs only 13, 14, 17, 18". (Inner: on an accepted volume.)
-pub fn count_in(g: Geometry, image: &[u8], slot: u64) -> Counted
-    requires { judged image.now ≡ Judged.Volume g }
+pub fn count_in(g: Geometry, image: &[u8], slot: u64) -> Result<u64, Refusal>
+    requires { judged image.now ≡ Ok g }
     ensures { result ≡ count_in g image.now slot }
 {
-    let k = known_file(g, image, slot);
-    if let Checked::Stopped(r) = k {
-        return Counted::Uncounted(r);
-    }
+    known_file(g, image, slot)?;
     tally(g, image, numbers_of(g, label_at(g, image, slot)), slot)
 }
 
 // The number of a file's blocks. "A file call stops at the first refusal of the volume."
-pub fn count(image: &[u8], slot: u64) -> Counted
+pub fn count(image: &[u8], slot: u64) -> Result<u64, Refusal>
     ensures { result ≡ counted image.now slot }
 {
-    let j = judge(image);
-    let Judged::Volume(g) = j else {
-        return Counted::Uncounted(refusal_of(j));
-    };
+    let g = judge(image)?;
     count_in(g, image, slot)
 }

@@ -1,12 +1,11 @@
 -- Bytes laid from a pen on: within its record, from record to record, and one run behind another.
 -- Assumes nothing.
-use Prim.Native.Nat.{ℕ, ◌+◌, ◌-◌, ◌<◌, ◌≤◌}
+use Prim.Native.Nat.{ℕ, min, ◌+◌, ◌-◌, ◌<◌, ◌≤◌}
 use mathlib.Core.Path.{◌≡◌, refl, sym, ap, subst, ◌∙◌}
-use mathlib.Core.Bool.{true, false, cond}
+use mathlib.Core.Bool.{true, false}
 use mathlib.Core.List.{List, [], ◌∷◌, ◌++◌, append_assoc}
 use lib.ListN.{length, get_or, take, drop, set, length-set, length-append}
 use lib.Seq.{take-nil, drop-nil}
-use lib.Dec.{leb}
 use native.Mathlib.Omega.{arith}
 use borrow.Author.Tests.{ne_eqb}
 use Rattle.standard.specs.Layout.{k_at, kind_offset, body_offset, incorrect_mark}
@@ -24,7 +23,7 @@ use Rattle.layout.specs.Room.{Sized}
 use Rattle.layout.proofs.TrackLaws.{data_k, incorrect_is}
 use Rattle.filling.specs.Poured.{poured, poured_from, laid_by, Placed, Lays, packed, Marked, Turned}
 use Rattle.filling.specs.declared.Pen.{Pen}
-use Rattle.filling.proofs.RunLaws.{splice_none, set_splice, in_part, take_over, drop_over, packed_length, packed_split, least_rest}
+use Rattle.filling.proofs.RunLaws.{splice_none, set_splice, in_part, take_over, drop_over, packed_length, packed_split}
 use Rattle.filling.proofs.StandLaws.{record_room, stands_same, stands_first}
 
 -- ---- BYTES OVER RECORDS
@@ -258,19 +257,14 @@ rest_on g s₀ s s₁ s₂ p₀ p p₁ p₂ all rest x rest' h e l k t more =
     ∙ turned_lays g s₁ s₂ p₁ p₂ t (rest' ++ more) (omega (arith, l, length-append rest' more))
 
 -- the same of data and fill, where the lesser of the data left and the room is laid
-pub rest_packed : (g : Geometry) (s₀ s s₁ s₂ : List ℕ) (p₀ p p₁ p₂ : Pen) (all bytes : List ℕ) (from n zeros k d : ℕ) → from + n ≤ length bytes → d ≤ n → d ≤ k → d ≡ cond (leb n k) n k → k < n + zeros
+pub rest_packed : (g : Geometry) (s₀ s s₁ s₂ : List ℕ) (p₀ p p₁ p₂ : Pen) (all bytes : List ℕ) (from n zeros k d : ℕ) → from + n ≤ length bytes → d ≡ min n k → k < n + zeros
     → Rest g s₀ p₀ all s p (packed bytes from n zeros) → Lays g s p (packed bytes from d (k - d)) s₁ p₁ → Turned g s₁ p₁ s₂ p₂
     → Rest g s₀ p₀ all s₂ p₂ (packed bytes (from + d) (n - d) (zeros - (k - d)))
-rest_packed g s₀ s s₁ s₂ p₀ p p₁ p₂ all bytes from n zeros k d lb ld lk e over h l t =
-    let z = least_rest n k zeros d e over in
-    let r = packed_length bytes (from + d) (n - d) (zeros - (k - d)) (omega (arith, lb, ld)) in
-    rest_on g s₀ s s₁ s₂ p₀ p p₁ p₂ all (packed bytes from n zeros) (packed bytes from d (k - d)) (packed bytes (from + d) (n - d) (zeros - (k - d))) h (packed_split bytes from n k zeros d e over) (omega (arith, r, z, ld, lk, over)) l t
+rest_packed g s₀ s s₁ s₂ p₀ p p₁ p₂ all bytes from n zeros k d lb e over h l t =
+    let r = packed_length bytes (from + d) (n - d) (zeros - (k - d)) (omega arith) in
+    rest_on g s₀ s s₁ s₂ p₀ p p₁ p₂ all (packed bytes from n zeros) (packed bytes from d (k - d)) (packed bytes (from + d) (n - d) (zeros - (k - d))) h (packed_split bytes from n k zeros d e over) (omega arith) l t
 
 -- behind the last record nothing more is laid
 pub rest_lost : (g : Geometry) (s₀ s₁ s₂ : List ℕ) (p₀ p₁ p₂ : Pen) (all rest : List ℕ) → Rest g s₀ p₀ all s₂ p₂ rest → Turned g s₁ p₁ s₂ p₂ → p₂.i ≡ g.P
     → Lays g s₀ p₀ all s₂ p₂
 rest_lost g s₀ s₁ s₂ p₀ p₁ p₂ all rest h t e = (λ more. h more ∙ t.stays e (rest ++ more) ∙ sym (t.stays e more), t.placed)
-
--- the last part has room in the record
-pub rest_last : (g : Geometry) (s₀ s s₁ : List ℕ) (p₀ p p₁ : Pen) (all rest : List ℕ) → Rest g s₀ p₀ all s p rest → Lays g s p rest s₁ p₁ → Lays g s₀ p₀ all s₁ p₁
-rest_last g s₀ s s₁ p₀ p p₁ all rest h k = (λ more. h more ∙ k.0 more, k.1)

@@ -1,18 +1,15 @@
 -- Runs of bytes laid over others: one byte more, and a run laid inside a part that was handed out.
 -- Assumes nothing.
-use Prim.Native.Nat.{ℕ, ◌+◌, ◌-◌, ◌<◌, ◌≤◌}
+use Prim.Native.Nat.{ℕ, min, ◌+◌, ◌-◌, ◌<◌, ◌≤◌}
 use mathlib.Core.Path.{◌≡◌, sym, ap, ◌∙◌}
-use mathlib.Core.Bool.{cond}
 use mathlib.Core.List.{List, [], ◌∷◌, ◌++◌, append_assoc}
-use lib.ListN.{length, take, drop, set, length-drop, length-append, length-replicate, take-append-drop, replicate-append-replicate}
+use lib.ListN.{length, take, drop, set, replicate, length-drop, length-append, length-replicate, take-append-drop, replicate-append-replicate}
 use lib.Seq.{paste, set_split, length-take-le, take-take, take-add, drop-drop, drop-append-le, take-append-add, drop-append-add}
-use lib.Dec.{leb}
 use native.Mathlib.Omega.{arith}
-use borrow.Author.Tests.{leb-true, leb-false}
 use native.Mathlib.Numerals.{add-one}
 use Rattle.standard.specs.Packing.{fill}
 use Rattle.standard.specs.Writing.{splice}
-use Rattle.promises.specs.Ground.Basics.{by_test}
+use Rattle.promises.specs.Ground.Basics.{either, lt_or_le}
 use Rattle.promises.specs.Ground.Splices.{splice_length}
 use Rattle.promises.specs.Writing.StoreLaws.{splice_join}
 use Rattle.filling.specs.Poured.{packed}
@@ -34,10 +31,16 @@ splice_more o x y s h =
     let l = splice_length o x s (omega arith) in
     set_splice (o + length x) y (splice o x s) (omega arith) ∙ splice_join o x (y ∷ []) s (omega arith)
 
-pub fill_more : (i k : ℕ) (s : List ℕ) → i + k < length s → set (splice i (fill k) s) (i + k) 0 ≡ splice i (fill (k + 1)) s
-fill_more i k s h =
-    let l = length-replicate {A = ℕ} k 0 in
-    ap (λ (n : ℕ). set (splice i (fill k) s) (i + n) 0) (sym l) ∙ splice_more i (fill k) 0 s (omega arith) ∙ ap (λ (t : List ℕ). splice i t s) (replicate-append-replicate {A = ℕ} k 1 0)
+-- a part that was lent, with 00 in it
+pub filled : (i n : ℕ) (s part : List ℕ) → i + n ≤ length s → part ≡ replicate (length (take (i + n - i) (drop i s))) 0
+    → take i s ++ (part ++ drop (i + n - i) (drop i s)) ≡ splice i (fill n) s
+unfolding splice
+filled i n s part h e =
+    let k : i + n - i ≡ n = omega arith in
+    let d = length-drop i s in
+    let l : length (take n (drop i s)) ≡ n = length-take-le n (drop i s) (omega arith) in
+    let m : i + length (fill n) ≡ i + n = omega (arith, length-replicate {A = ℕ} n 0) in
+    rw (e, k, l, drop-drop, m)
 
 -- data and fill
 pub packed_length : (bytes : List ℕ) (from n zeros : ℕ) → from + n ≤ length bytes → length (packed bytes from n zeros) ≡ n + zeros
@@ -95,15 +98,11 @@ drop_over k x more h =
     let e : k ≡ length x + (k - length x) = omega arith in
     ap (λ (n : ℕ). drop n (x ++ more)) e ∙ drop-append-add x more (k - length x)
 
--- the lesser of the data left and the room
-pub least_rest : (n k zeros d : ℕ) → d ≡ cond (leb n k) n k → k < n + zeros → k - d ≤ zeros
-least_rest n k zeros d e h = by_test (leb n k) (λ t. let f : d ≡ n = e ∙ rw t in omega arith) (λ t. let f : d ≡ k = e ∙ rw t in omega arith)
-
 -- data and fill, as much as has room, and the rest behind it
-pub packed_split : (bytes : List ℕ) (from n k zeros d : ℕ) → d ≡ cond (leb n k) n k → k < n + zeros
+pub packed_split : (bytes : List ℕ) (from n k zeros d : ℕ) → d ≡ min n k → k < n + zeros
     → packed bytes from n zeros ≡ packed bytes from d (k - d) ++ packed bytes (from + d) (n - d) (zeros - (k - d))
 packed_split bytes from n k zeros d e h =
-    by_test (leb n k) (λ t. all_data (leb-true n k t) (e ∙ rw t)) (λ t. part_data (leb-false n k t) (e ∙ rw t))
+    either (lt_or_le k n) (λ l. part_data l (omega arith)) (λ l. all_data l (omega arith))
   where
     all_data : n ≤ k → d ≡ n → packed bytes from n zeros ≡ packed bytes from d (k - d) ++ packed bytes (from + d) (n - d) (zeros - (k - d))
     all_data l f =

@@ -2,15 +2,14 @@
 -- Assumes nothing.
 use Prim.Native.Nat.{ℕ, ◌+◌, ◌-◌, ◌/◌, ◌<◌, ◌≤◌}
 use mathlib.Core.Path.{◌≡◌, sym, ap, ◌∙◌}
-use mathlib.Core.List.{List, [], ◌∷◌, ◌++◌, append-nil}
-use lib.ListN.{length, get_or, take, drop, set, length-drop, drop_of_length-le}
-use lib.Seq.{drop-cons, take_all}
+use mathlib.Core.List.{List, [], ◌∷◌, ◌++◌}
+use lib.ListN.{length, get_or, drop, set, length-drop, drop_of_length-le}
+use lib.Seq.{drop-cons}
 use native.Mathlib.Omega.{arith}
 use Rattle.standard.specs.Characters.{digit_of, padded}
 use Rattle.standard.specs.Writing.{splice}
-use Rattle.promises.specs.Ground.Splices.{splice_length}
 use Rattle.promises.specs.Writing.StoreLaws.{splice_join}
-use Rattle.filling.specs.Poured.{packed, word_s}
+use Rattle.filling.specs.Poured.{word_s}
 use Rattle.filling.proofs.RunLaws.{set_splice, splice_more}
 
 padded_four : (n : ℕ) → padded 4 n ≡ (digit_of (n / 1000) ∷ digit_of (n / 100) ∷ digit_of (n / 10) ∷ digit_of (n / 1) ∷ [])
@@ -59,9 +58,3 @@ module _ (w : List ℕ) (five : length w ≡ 5) where
 
   pub last_length : (n : ℕ) → n ≤ 5 → length (drop (5 - n) w) ≡ n
   last_length n h = length-drop (5 - n) w ∙ omega arith
-
-  pub word_length : (n o : ℕ) (s t : List ℕ) → n ≡ 5 → o + 5 ≤ length s → t ≡ splice (o + 1) (drop 1 w) (set s o (get_or w 0 0)) → length t ≡ length s
-  word_length n o s t z h e = ap length (word_laid n o s t z h e) ∙ splice_length o (drop (5 - n) w) s (omega (arith, last_length n (omega arith)))
-
-  pub word_packed : (n : ℕ) → n ≤ 5 → packed w (5 - n) n 0 ≡ drop (5 - n) w
-  word_packed n h = append-nil (take n (drop (5 - n) w)) ∙ take_all n (drop (5 - n) w) (omega (arith, last_length n h))

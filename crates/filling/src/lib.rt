@@ -3,7 +3,7 @@
 // volume.
 #![tactic(auto)]
 
-ghost use Rattle.std.specs.Prelude.{◌≡◌, true, cond, leb, List, ◌∷◌, ℕ, ◌+◌, ◌-◌, ◌/◌, ◌<◌, ◌≤◌, length, take, drop};
+ghost use Rattle.std.specs.Prelude.{◌≡◌, true, List, ◌∷◌, ℕ, ◌+◌, ◌-◌, ◌/◌, ◌<◌, ◌≤◌, length, take, drop};
 ghost use Rattle.standard.specs.Characters.{digit_of, padded};
 ghost use Rattle.standard.specs.Layout.{kind_offset};
 ghost use Rattle.standard.specs.Addresses.{ordinal};
@@ -14,9 +14,9 @@ ghost use Rattle.layout.specs.Room.{Sized};
 ghost use Rattle.filling.specs.Poured.{poured, laid_by, Placed, Lays, packed, word_s, Marked, Turned};
 
 use extents::{Cursor, next_good};
-use fields::{copy_run, wide16};
+use fields::copy_run;
 use layout::{kind_behind, kind_of};
-use standard::{Geometry, wide};
+use standard::Geometry;
 
 // A record that is begun, the number of its bytes that are laid, and where the next byte stands in the image.
 #[derive(Clone, Copy)]
@@ -31,11 +31,7 @@ fn lay_fill(body: &mut [u8], i: usize, n: usize)
     requires { i + n ≤ length body.old }
     ensures { body.new ≡ splice i (fill n) body.old }
 {
-    let mut k = 0;
-    while k < n {
-        body[i + k] = 0;
-        k += 1;
-    }
+    body[i..i + n].fill(0);
 }
 
 // The filler: data, and 00 fill behind it, laid into a record's body from byte i on.
@@ -54,7 +50,7 @@ fn mark_at(g: Geometry, image: &mut [u8], c: Cursor, at: u64) -> Pen
 {
     image[at as usize] = g.k;
     Pen {
-        c: c,
+        c,
         i: 0,
         at: at + 1,
     }
@@ -104,8 +100,8 @@ fn turn(g: Geometry, image: &mut [u8], p: Pen) -> Pen
     }
     let next = a.step(g);
     let o = kind_behind(g, a, next, end);
-    let kind = wide(image[o as usize]);
-    if kind == 16 + wide(g.k) {
+    let kind = u64::from(image[o as usize]);
+    if kind == 16 + u64::from(g.k) {
         return turn_past(g, image, p);
     }
     mark_at(
@@ -128,23 +124,13 @@ fn put_in(g: Geometry, image: &mut [u8], p: Pen, bytes: &[u8], from: u64, n: u64
     let i = p.i;
     let at = p.at;
     let a = (at - i) as usize;
-    let e = a + wide16(g.P) as usize;
+    let e = a + usize::from(g.P);
     pack(&mut image[a..e], i, bytes, from, n, zeros);
     Pen {
-        c: c,
+        c,
         i: i + n + zeros,
         at: at + n + zeros,
     }
-}
-
-// The lesser of two numbers.
-pub fn least(a: u64, b: u64) -> u64
-    ensures { (result ≤ a) × (result ≤ b) × (result ≡ cond (leb a b) a b) }
-{
-    if a <= b {
-        return a;
-    }
-    b
 }
 
 // Data, and fill behind it, laid from a pen on: record by record, and none is begun behind the last one that a byte comes to.
@@ -160,14 +146,14 @@ pub fn put(
     requires { (Placed g image.old start) × (first + count ≤ length bytes.now) × (count < 4294967296) × (behind < 4294967296) }
     ensures { Lays g image.old start (packed bytes.now first count behind) image.new result }
 {
-    let size = wide16(g.P);
+    let size = u64::from(g.P);
     let mut p = start;
     let mut from = first;
     let mut n = count;
     let mut zeros = behind;
     while size - p.i < n + zeros {
         let k = size - p.i;
-        let d = least(n, k);
+        let d = n.min(k);
         p = put_in(g, image, p, bytes, from, d, k - d);
         p = turn(g, image, p);
         if p.i == size {
@@ -235,10 +221,10 @@ fn word_in(g: Geometry, image: &mut [u8], p: Pen, word: [u8; 5], n: u64) -> Pen
     let i = p.i;
     let at = p.at;
     let a = (at - i) as usize;
-    let e = a + wide16(g.P) as usize;
+    let e = a + usize::from(g.P);
     lay_word(&mut image[a..e], i as usize, word, n);
     Pen {
-        c: c,
+        c,
         i: i + n,
         at: at + n,
     }
@@ -259,7 +245,7 @@ fn put_word(g: Geometry, image: &mut [u8], p: Pen, digit: u64, size: u64, n: u64
 {
     let word = word_of(digit, size);
     let i = p.i;
-    if i + n <= wide16(g.P) {
+    if i + n <= u64::from(g.P) {
         return word_in(g, image, p, word, n);
     }
     word_over(g, image, p, word, n)

@@ -8,15 +8,15 @@ ghost use Rattle.standard.specs.Layout.{slot_count, label_at};
 ghost use Rattle.standard.specs.Slots.{has_label};
 ghost use Rattle.standard.specs.Finding.{is_named, found, found_at, label_named, label_in_slot};
 ghost use Rattle.standard.specs.Writing.{refusal24};
-ghost use Rattle.index.specs.Whole.{Slotted};
+ghost use Rattle.index.specs.Whole.{Slotted, some_slot};
 ghost use Rattle.finding.specs.Handed.{HandedOut};
 ghost use Rattle.finding.specs.Slot.{slot_named, known_file};
 
 use index::{is_known, is_label};
 use labels::{known_level, name_is};
 use layout::{label_at, label_offset, slot_count};
-use standard::{Checked, Found, Geometry, Judged, Refusal, wide};
-use volume::{judge, refusal_of};
+use standard::{Found, Geometry, Refusal};
+use volume::judge;
 
 // Whether a slot of the volume has a label. (For layers above: any slot, on an accepted volume.)
 pub fn has_label(g: Geometry, image: &[u8], slot: u64) -> bool
@@ -34,90 +34,86 @@ pub fn has_label(g: Geometry, image: &[u8], slot: u64) -> bool
 }
 
 // Refusals 13 and 14: what every call on a file asks of its slot first. (For layers above, on an accepted volume.)
-pub fn known_file(g: Geometry, image: &[u8], slot: u64) -> Checked
+pub fn known_file(g: Geometry, image: &[u8], slot: u64) -> Result<(), Refusal>
     requires { Slotted g image.now }
     ensures { result ≡ known_file g image.now slot }
 {
     if !has_label(g, image, slot) {
-        return Checked::Stopped(Refusal::at(13, 0));
+        return Err(Refusal::at(13, 0));
     }
     if !known_level(label_at(g, image, slot)) {
-        return Checked::Stopped(Refusal::at(14, slot));
+        return Err(Refusal::at(14, slot));
     }
-    Checked::Passed
+    Ok(())
 }
 
 // 24 "43 is P", behind what was asked of the slot before it: writing and deleting ask it. (For layers above, on an accepted volume.)
-pub fn unprotected(g: Geometry, image: &[u8], slot: u64, asked: Checked) -> Checked
-    requires { Slotted g image.now × (asked ≡ Checked.Passed → has_label g image.now slot ≡ true) }
+pub fn unprotected(
+    g: Geometry,
+    image: &[u8],
+    slot: u64,
+    asked: Result<(), Refusal>,
+) -> Result<(), Refusal>
+    requires { Slotted g image.now × (asked ≡ Ok tt → has_label g image.now slot ≡ true) }
     ensures { result ≡ or_else asked (refusal24 (label_at g image.now slot) slot) }
 {
-    if let Checked::Stopped(r) = asked {
-        return Checked::Stopped(r);
-    }
+    asked?;
     let h = label_at(g, image, slot);
-    if wide(h[42]) == 80 {
-        return Checked::Stopped(Refusal::at(24, slot));
+    if u64::from(h[42]) == 80 {
+        return Err(Refusal::at(24, slot));
     }
-    Checked::Passed
+    Ok(())
 }
 
 fn is_named(g: Geometry, image: &[u8], name: &[u8], slot: u64) -> bool
     requires { Slotted g image.now × (1 ≤ slot) × (slot ≤ slot_count g) }
     ensures { result ≡ is_named g image.now name.now slot }
 {
-    if !is_known(g, image, slot) {
-        return false;
-    }
-    name_is(label_at(g, image, slot), name)
+    is_known(g, image, slot) && name_is(label_at(g, image, slot), name)
 }
 
-// "Names are 17 bytes, found among levels space, 1, 2 only": the slot, 0 for none. (For layers above, on an accepted volume.)
-pub fn slot_named(g: Geometry, image: &[u8], name: &[u8]) -> u64
+// "Names are 17 bytes, found among levels space, 1, 2 only": the slot. (For layers above, on an accepted volume.)
+pub fn slot_named(g: Geometry, image: &[u8], name: &[u8]) -> Option<u64>
     requires { Slotted g image.now }
-    ensures { (result ≡ slot_named g image.now name.now) × (result ≤ slot_count g) }
+    ensures { (result ≡ some_slot (slot_named g image.now name.now)) × (slot_named g image.now name.now ≤ slot_count g) }
 {
-    let n = slot_count(g);
-    let mut i = 0;
-    while i < n {
-        if is_named(g, image, name, i + 1) {
-            return i + 1;
+    for slot in 1..slot_count(g) + 1 {
+        if is_named(g, image, name, slot) {
+            return Some(slot);
         }
-        i += 1;
     }
-    0
+    None
 }
 
 // 13: "no label in that slot or of that name", 0
-fn unfound() -> Found
-    ensures { result ≡ Found.Unfound (refuse 13 0) }
+fn unfound() -> Result<Found, Refusal>
+    ensures { result ≡ Err (refuse 13 0) }
 {
-    Found::Unfound(Refusal::at(13, 0))
+    Err(Refusal::at(13, 0))
 }
 
-pub fn find(image: &[u8], name: &[u8]) -> Found
+pub fn find(image: &[u8], name: &[u8]) -> Result<Found, Refusal>
     ensures { result ≡ found image.now name.now }
 {
-    let j = judge(image);
-    let Judged::Volume(g) = j else {
-        return Found::Unfound(refusal_of(j));
-    };
-    let bearer = slot_named(g, image, name);
-    if bearer == 0 {
+    let g = judge(image)?;
+    let Some(bearer) = slot_named(g, image, name) else {
         return unfound();
-    }
-    Found::At(bearer, label_offset(g, bearer))
+    };
+    Ok(Found {
+        slot: bearer,
+        offset: label_offset(g, bearer),
+    })
 }
 
-pub fn find_slot(image: &[u8], slot: u64) -> Found
+pub fn find_slot(image: &[u8], slot: u64) -> Result<Found, Refusal>
     ensures { result ≡ found_at image.now slot }
 {
-    let j = judge(image);
-    let Judged::Volume(g) = j else {
-        return Found::Unfound(refusal_of(j));
-    };
+    let g = judge(image)?;
     if has_label(g, image, slot) {
-        return Found::At(slot, label_offset(g, slot));
+        return Ok(Found {
+            slot,
+            offset: label_offset(g, slot),
+        });
     }
     unfound()
 }
@@ -133,22 +129,19 @@ fn nothing(image: &[u8]) -> &[u8]
 pub fn label_named<'a, 'b>(image: &'a [u8], name: &'b [u8]) -> &'a [u8]
     ensures { (result.now ≡ label_named image.now name.now) × (HandedOut image.entry (found image.now name.now) result) }
 {
-    let j = judge(image);
-    let Judged::Volume(g) = j else {
+    let Ok(g) = judge(image) else {
         return nothing(image);
     };
-    let slot = slot_named(g, image, name);
-    if slot == 0 {
+    let Some(slot) = slot_named(g, image, name) else {
         return nothing(image);
-    }
+    };
     label_at(g, image, slot)
 }
 
 pub fn label_in_slot(image: &[u8], slot: u64) -> &[u8]
     ensures { (result.now ≡ label_in_slot image.now slot) × (HandedOut image.entry (found_at image.now slot) result) }
 {
-    let j = judge(image);
-    let Judged::Volume(g) = j else {
+    let Ok(g) = judge(image) else {
         return nothing(image);
     };
     if !has_label(g, image, slot) {

@@ -1,20 +1,26 @@
 -- The fields of a line as their parts in a row.
 -- Assumes nothing.
+use Rattle.std.specs.Prelude.{Result, Ok}
 use Prim.Native.Nat.{ℕ, ◌+◌, ◌/◌, ◌%◌, ◌<◌, ◌≤◌}
 use mathlib.Core.Path.{◌≡◌, refl, sym, ap, ◌∙◌}
+use mathlib.Core.Bool.{Bool, true, false}
 use mathlib.Core.List.{List, [], ◌∷◌, ◌++◌, append_assoc}
 use lib.ListN.{length, get_or, take, drop, length-take, drop_of_length-le}
 use lib.Seq.{drop-cons}
 use native.Mathlib.Omega.{arith}
 use native.Mathlib.Numerals.{add-one}
-use borrow.Author.Tests.{eq-eqb, ne_eqb}
+use mir.Val.{bool_byte}
 use Rattle.standard.specs.Characters.{bytes, shown}
-use Rattle.standard.specs.Records.{plain, salvage}
 use Rattle.standard.specs.declared.Place.{Place}
 use Rattle.standard.specs.declared.Refusal.{Refusal}
 use Rattle.standard.specs.declared.Answer.{Answer}
-use Rattle.standard.specs.declared.Answer.TheVariants.{Unanswered, Gap, End, Record as RecordOf}
-use Rattle.following.specs.Lines.{spaced, place_fields, hex_digit, pair_of, hex_of, body_field, refused_fields, record_fields, answer_fields, mode_of}
+use Rattle.standard.specs.declared.Answer.TheVariants.{Gap, End, Record as RecordOf}
+use Rattle.following.specs.Lines.{spaced, mark_number, place_fields, hex_digit, pair_of, hex_of, body_field, refused_fields, record_fields, answer_fields}
+
+-- the mark as a number
+pub mark_is : (mark : Bool) → bool_byte mark ≡ mark_number mark
+mark_is true = refl
+mark_is false = refl
 
 -- byte after byte
 pub hex_more : (body : List ℕ) (i : ℕ) → i < length body → hex_of (drop i body) ≡ pair_of (get_or body i 0) ++ hex_of (drop (i + 1) body)
@@ -45,25 +51,15 @@ unfolding refused_fields
 refused_is r = simp append_assoc
 
 -- the fields of an answer, by what it is
-pub as_refused : {a : Answer} {r : Refusal} (out : List ℕ) → a ≡ Unanswered r → refused_fields r ≡ answer_fields a out
-as_refused out e = ap (λ (k : Answer). answer_fields k out) (sym e)
-
-pub as_record : {a : Answer} {n : ℕ} {next : Place} {body : List ℕ} (out : List ℕ) → a ≡ RecordOf n next → body ≡ take n out
+pub as_record : {a : Result Answer Refusal} {n : ℕ} {next : Place} {body : List ℕ} (out : List ℕ) → a ≡ Ok (RecordOf n next) → body ≡ take n out
     → record_fields n next body ≡ answer_fields a out
-as_record {n = n} {next = next} out e b = ap (record_fields n next) b ∙ ap (λ (k : Answer). answer_fields k out) (sym e)
+as_record {n = n} {next = next} out e b = ap (record_fields n next) b ∙ ap (λ (k : Result Answer Refusal). answer_fields k out) (sym e)
 
-pub as_gap : {a : Answer} {next : Place} (out : List ℕ) → a ≡ Gap next → bytes " gap" ++ place_fields next ≡ answer_fields a out
-as_gap out e = ap (λ (k : Answer). answer_fields k out) (sym e)
+pub as_gap : {a : Result Answer Refusal} {next : Place} (out : List ℕ) → a ≡ Ok (Gap next) → bytes " gap" ++ place_fields next ≡ answer_fields a out
+as_gap out e = ap (λ (k : Result Answer Refusal). answer_fields k out) (sym e)
 
-pub as_end : {a : Answer} {next : Place} (out : List ℕ) → a ≡ End next → bytes " end" ++ place_fields next ≡ answer_fields a out
-as_end out e = ap (λ (k : Answer). answer_fields k out) (sym e)
-
--- the mode by its letter
-pub letter_s : (letter : ℕ) → letter ≡ 115 → salvage ≡ mode_of letter
-letter_s letter h = rw (eq-eqb letter 115 h)
-
-pub letter_other : (letter : ℕ) → (letter ≡ 115 → ⊥) → plain ≡ mode_of letter
-letter_other letter h = rw (ne_eqb letter 115 h)
+pub as_end : {a : Result Answer Refusal} {next : Place} (out : List ℕ) → a ≡ Ok (End next) → bytes " end" ++ place_fields next ≡ answer_fields a out
+as_end out e = ap (λ (k : Result Answer Refusal). answer_fields k out) (sym e)
 
 -- a byte as two digits
 pub digits_pair : (b h l : ℕ) → h ≡ hex_digit (b / 16) → l ≡ hex_digit (b % 16) → h ∷ l ∷ [] ≡ pair_of b

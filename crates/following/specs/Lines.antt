@@ -1,13 +1,15 @@
 -- The lines of the following program: one for each answer of a reading.
 -- Assumes nothing.
-use Rattle.std.specs.Prelude.{ℕ, ◌+◌, ◌/◌, ◌%◌, Bool, true, false, cond, List, [], ◌∷◌, ◌++◌, take, ltb, eqb}
+use Rattle.std.specs.Prelude.{ℕ, ◌+◌, ◌/◌, ◌%◌, Bool, false, cond, List, [], ◌∷◌, ◌++◌, take, ltb, Option, Some, None, Result, Ok, Err}
 use Rattle.standard.specs.Characters.{bytes, byte, shown}
-use Rattle.standard.specs.Records.{Mode, plain, salvage}
 use Rattle.standard.specs.Reading.{read_answer, output_after}
 use Rattle.standard.specs.declared.Place.{Place}
 use Rattle.standard.specs.declared.Refusal.{Refusal}
 use Rattle.standard.specs.declared.Answer.{Answer}
-use Rattle.standard.specs.declared.Answer.TheVariants.{Unanswered, Gap, End, Record as RecordOf}
+use Rattle.standard.specs.declared.Answer.TheVariants.{Gap, End, Record as RecordOf}
+use Rattle.walks.specs.Walks.{mode_of}
+use Rattle.walks.specs.declared.Mode.{Mode}
+use Rattle.walks.specs.declared.Mode.TheVariants.{Plain, Salvage}
 
 -- a space and a field
 abbrev pub spaced : List ℕ → List ℕ
@@ -43,40 +45,33 @@ refused_fields r = bytes " refused" ++ (spaced (shown r.number) ++ (spaced (show
 unfoldable pub record_fields : ℕ → Place → List ℕ → List ℕ
 record_fields n next body = bytes " record" ++ (spaced (shown n) ++ (place_fields next ++ body_field body))
 
-abbrev pub answer_fields : Answer → List ℕ → List ℕ
-answer_fields (Unanswered r) out = refused_fields r
-answer_fields (RecordOf n next) out = record_fields n next (take n out)
-answer_fields (Gap next) out = bytes " gap" ++ place_fields next
-answer_fields (End next) out = bytes " end" ++ place_fields next
+abbrev pub answer_fields : Result Answer Refusal → List ℕ → List ℕ
+answer_fields (Err r) out = refused_fields r
+answer_fields (Ok (RecordOf n next)) out = record_fields n next (take n out)
+answer_fields (Ok (Gap next)) out = bytes " gap" ++ place_fields next
+answer_fields (Ok (End next)) out = bytes " end" ++ place_fields next
 
--- the line: slot and mode, and what was answered
-unfoldable pub answer_line : ℕ → ℕ → Answer → List ℕ → List ℕ
-answer_line slot mode a out = shown slot ++ (spaced (mode ∷ []) ++ (answer_fields a out ++ (10 ∷ [])))
+-- the letter of a mode: `r` is plain reading, `s` salvage
+abbrev pub letter_of : Mode → ℕ
+letter_of Plain = byte "r"
+letter_of Salvage = byte "s"
 
--- the letter of salvage is `s`
-abbrev pub mode_of : ℕ → Mode
-mode_of letter = cond (eqb letter 115) salvage plain
+-- the line: slot and letter, and what was answered
+unfoldable pub answer_line : ℕ → Mode → Result Answer Refusal → List ℕ → List ℕ
+answer_line slot mode a out = shown slot ++ (spaced (letter_of mode ∷ []) ++ (answer_fields a out ++ (10 ∷ [])))
 
 -- the line of a reading: what it answers, and the output as it leaves it
-abbrev pub reading_line : List ℕ → ℕ → ℕ → Place → List ℕ → List ℕ
+abbrev pub reading_line : List ℕ → ℕ → Mode → Place → List ℕ → List ℕ
 reading_line image slot mode pl out = answer_line slot mode (read_answer (mode_of mode) image slot pl out) (output_after (mode_of mode) image slot pl out)
 
--- Whether there is a place to go on from, and which. End and a refusal stop the row.
-abbrev pub goes_on : Answer → Bool
-goes_on (Unanswered r) = false
-goes_on (RecordOf n next) = true
-goes_on (Gap next) = true
-goes_on (End next) = false
-
-abbrev pub next_of : Answer → Place → Place
-next_of (Unanswered r) pl = pl
-next_of (RecordOf n next) pl = next
-next_of (Gap next) pl = next
-next_of (End next) pl = next
+-- The place to go on from, where there is one. End and a refusal stop the row.
+abbrev pub next_of : Result Answer Refusal → Option Place
+next_of (Err r) = None
+next_of (Ok (RecordOf n next)) = Some next
+next_of (Ok (Gap next)) = Some next
+next_of (Ok (End next)) = None
 
 -- "A file call stops at the first refusal of the volume": 1 to 12
-abbrev pub of_volume : Answer → Bool
-of_volume (Unanswered r) = ltb r.number 13
-of_volume (RecordOf n next) = false
-of_volume (Gap next) = false
-of_volume (End next) = false
+abbrev pub of_volume : Result Answer Refusal → Bool
+of_volume (Err r) = ltb r.number 13
+of_volume (Ok a) = false

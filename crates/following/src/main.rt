@@ -2,39 +2,40 @@
 // in salvage, so that both can be compared with an independent reader. Each file is opened once. One line is printed for each answer.
 #![tactic(auto)]
 
-ghost use Rattle.std.specs.Prelude.{◌≡◌, [], ◌∷◌, ◌++◌, ◌+◌, ◌*◌, ◌<◌, ◌≤◌, length, take, replicate, IfOk};
-ghost use Rattle.std.specs.Io.{ReadsAtMost};
-ghost use Rattle.std.specs.Io.KnownBytes.{Consumes, IsAtEnd};
+ghost use Rattle.std.specs.Prelude.{◌≡◌, [], ◌∷◌, ◌++◌, ◌+◌, ◌*◌, ◌<◌, ◌≤◌, length, take, replicate};
 ghost use Rattle.standard.specs.Characters.{shown};
 ghost use Rattle.standard.specs.Places.{start};
 ghost use Rattle.standard.specs.Records.{plain};
 ghost use Rattle.standard.specs.Reading.{read_answer};
-ghost use Rattle.text.specs.Laid.{Puts};
-ghost use Rattle.opened.specs.Carries.{Carries, Asks};
-ghost use Rattle.following.specs.Lines.{spaced, mark_number, place_fields, hex_digit, pair_of, hex_of, body_field, refused_fields, record_fields, answer_fields, answer_line, mode_of, reading_line, goes_on, next_of, of_volume};
+ghost use Rattle.text.specs.Laid.{Puts, Writes};
+ghost use Rattle.walks.specs.Walks.{mode_of};
+ghost use Rattle.opened.specs.Carries.{Carries};
+ghost use Rattle.following.specs.Lines.{spaced, place_fields, hex_digit, pair_of, hex_of, body_field, refused_fields, record_fields, answer_fields, answer_line, letter_of, reading_line, next_of, of_volume};
 
-use opened::{Carried, Told, carry, read_next, salvage_next};
+use input::read_full;
+use opened::{Carried, Told, ask_next, carry};
 use standard::{Answer, Place, Refusal};
 use std::io;
-use std::io::Read;
-use text::{put_byte, put_bytes, put_named, put_number, put_refusal};
+use text::Text;
+use walks::Mode;
 
-fn mark_number(mark: bool) -> u64
-    ensures { result ≡ mark_number mark }
+// `r` and `s`
+fn letter_of(mode: Mode) -> u8
+    ensures { result ≡ letter_of mode }
 {
-    if mark {
-        return 1;
+    match mode {
+        Mode::Plain => 114,
+        Mode::Salvage => 115,
     }
-    0
 }
 
-fn put_place(out: &mut [u8], at: usize, place: Place) -> usize
-    requires { at < 8388608 }
-    ensures { Puts out.old out.new at result (place_fields place) × (result ≤ at + 63) }
+fn put_place(text: &mut Text, place: Place)
+    requires { text.old.at < 8388608 }
+    ensures { Writes text.old text.new 63 (place_fields place) }
 {
-    let offset = put_named(out, at, b" ", place.block);
-    let mark = put_named(out, offset, b" ", place.offset);
-    put_named(out, mark, b" ", mark_number(place.mark))
+    text.named(b" ", place.block);
+    text.named(b" ", place.offset);
+    text.named(b" ", u64::from(place.mark));
 }
 
 fn hex_digit(n: u8) -> u8
@@ -48,37 +49,33 @@ fn hex_digit(n: u8) -> u8
 }
 
 // A byte in two hex digits.
-fn put_pair(out: &mut [u8], at: usize, b: u8) -> usize
-    requires { at < 16777216 }
-    ensures { Puts out.old out.new at result (pair_of b) × (result ≡ at + 2) }
+fn put_pair(text: &mut Text, b: u8)
+    requires { text.old.at < 16777216 }
+    ensures { Writes text.old text.new 2 (pair_of b) }
 {
-    let next = put_byte(out, at, hex_digit(b / 16));
-    put_byte(out, next, hex_digit(b % 16))
+    text.byte(hex_digit(b / 16));
+    text.byte(hex_digit(b % 16));
 }
 
-fn put_hex(out: &mut [u8], at: usize, body: &[u8]) -> usize
-    requires { (at < 65536) × (length body.now ≤ 65536) }
-    ensures { Puts out.old out.new at result (hex_of body.now) × (result ≡ at + 2 * length body.now) }
+fn put_hex(text: &mut Text, body: &[u8])
+    requires { (text.old.at < 65536) × (length body.now ≤ 65536) }
+    ensures { Writes text.old text.new (2 * length body.now) (hex_of body.now) }
 {
-    let mut i = 0;
-    let mut next = at;
-    while i < body.len() {
-        next = put_pair(out, next, body[i]);
-        i += 1;
+    for &b in body {
+        put_pair(text, b);
     }
-    next
 }
 
 // The bytes of a record; of an empty one nothing, not even the space.
-fn put_body(out: &mut [u8], at: usize, body: &[u8]) -> usize
-    requires { (at < 32768) × (length body.now ≤ 65536) }
-    ensures { Puts out.old out.new at result (body_field body.now) × (result ≤ at + 1 + 2 * length body.now) }
+fn put_body(text: &mut Text, body: &[u8])
+    requires { (text.old.at < 32768) × (length body.now ≤ 65536) }
+    ensures { Writes text.old text.new (1 + 2 * length body.now) (body_field body.now) }
 {
-    if body.len() == 0 {
-        return at;
+    if body.is_empty() {
+        return;
     }
-    let next = put_byte(out, at, 32);
-    put_hex(out, next, body)
+    text.byte(32);
+    put_hex(text, body);
 }
 
 // The first n bytes of the output, or all of them if they are fewer.
@@ -92,142 +89,117 @@ fn first_of(out: &[u8], n: u64) -> &[u8]
     out
 }
 
-fn put_refused(out: &mut [u8], at: usize, r: Refusal) -> usize
-    requires { at < 8192 }
-    ensures { Puts out.old out.new at result (refused_fields r) × (result ≤ at + 71) }
+fn put_refused(text: &mut Text, r: Refusal)
+    requires { text.old.at < 8192 }
+    ensures { Writes text.old text.new 71 (refused_fields r) }
 {
-    let second = put_refusal(out, at, b" refused ", r);
-    put_named(out, second, b" ", r.second)
+    text.refusal(b" refused ", r);
+    text.named(b" ", r.second);
 }
 
-fn put_record(out: &mut [u8], at: usize, n: u64, next: Place, body: &[u8]) -> usize
-    requires { (at < 8192) × (length body.now ≤ 65536) }
-    ensures { Puts out.old out.new at result (record_fields n next body.now) × (result ≤ at + 92 + 2 * length body.now) }
+fn put_record(text: &mut Text, n: u64, next: Place, body: &[u8])
+    requires { (text.old.at < 8192) × (length body.now ≤ 65536) }
+    ensures { Writes text.old text.new (92 + 2 * length body.now) (record_fields n next body.now) }
 {
-    let place = put_named(out, at, b" record ", n);
-    let hex = put_place(out, place, next);
-    put_body(out, hex, body)
+    text.named(b" record ", n);
+    put_place(text, next);
+    put_body(text, body);
 }
 
 // What was answered. `lent` is the output of the reading.
-fn put_answer(out: &mut [u8], at: usize, a: Answer, lent: &[u8]) -> usize
-    requires { (at < 4096) × (length lent.now ≤ 65536) }
-    ensures { Puts out.old out.new at result (answer_fields a lent.now) × (result ≤ at + 92 + 2 * length lent.now) }
+fn put_answer(text: &mut Text, a: Result<Answer, Refusal>, lent: &[u8])
+    requires { (text.old.at < 4096) × (length lent.now ≤ 65536) }
+    ensures { Writes text.old text.new (92 + 2 * length lent.now) (answer_fields a lent.now) }
 {
     match a {
-        Answer::Unanswered(r) => put_refused(out, at, r),
-        Answer::Record(n, next) => put_record(out, at, n, next, first_of(lent, n)),
-        Answer::Gap(next) => {
-            let place = put_bytes(out, at, b" gap");
-            put_place(out, place, next)
+        Err(r) => put_refused(text, r),
+        Ok(Answer::Record(n, next)) => put_record(text, n, next, first_of(lent, n)),
+        Ok(Answer::Gap(next)) => {
+            text.bytes(b" gap");
+            put_place(text, next);
         }
-        Answer::End(next) => {
-            let place = put_bytes(out, at, b" end");
-            put_place(out, place, next)
+        Ok(Answer::End(next)) => {
+            text.bytes(b" end");
+            put_place(text, next);
         }
     }
 }
 
 // The line of an answer.
-fn put_line(out: &mut [u8], slot: u64, mode: u8, a: Answer, lent: &[u8]) -> usize
+fn put_line(out: &mut [u8], slot: u64, mode: Mode, a: Result<Answer, Refusal>, lent: &[u8]) -> usize
     requires { length lent.now ≤ 4096 }
     ensures { Puts out.old out.new 0 result (answer_line slot mode a lent.now) × (result ≤ 8448) }
 {
-    let space = put_number(out, 0, slot);
-    let letter = put_byte(out, space, 32);
-    let answer = put_byte(out, letter, mode);
-    let end = put_answer(out, answer, a, lent);
-    put_byte(out, end, 10)
+    let mut text = Text::at(out, 0);
+    text.number(slot);
+    text.byte(32);
+    text.byte(letter_of(mode));
+    put_answer(&mut text, a, lent);
+    text.byte(10);
+    text.end()
 }
 
-// Whether a row goes on behind an answer, and from where.
-fn goes_on(a: Answer) -> bool
-    ensures { result ≡ goes_on a }
+// The place that a row goes on from behind an answer; none where it ends.
+fn next_of(a: Result<Answer, Refusal>) -> Option<Place>
+    ensures { result ≡ next_of a }
 {
     match a {
-        Answer::Unanswered(_) => false,
-        Answer::Record(_, _) => true,
-        Answer::Gap(_) => true,
-        Answer::End(_) => false,
-    }
-}
-
-fn next_of(a: Answer, place: Place) -> Place
-    ensures { result ≡ next_of a place }
-{
-    match a {
-        Answer::Unanswered(_) => place,
-        Answer::Record(_, next) => next,
-        Answer::Gap(next) => next,
-        Answer::End(next) => next,
+        Err(_) => None,
+        Ok(Answer::Record(_, next)) => Some(next),
+        Ok(Answer::Gap(next)) => Some(next),
+        Ok(Answer::End(_)) => None,
     }
 }
 
 // "A file call stops at the first refusal of the volume": 1 to 12, which no slot changes.
-fn of_volume(a: Answer) -> bool
+fn of_volume(a: Result<Answer, Refusal>) -> bool
     ensures { result ≡ of_volume a }
 {
     match a {
-        Answer::Unanswered(r) => r.number < 13,
-        Answer::Record(_, _) => false,
-        Answer::Gap(_) => false,
-        Answer::End(_) => false,
+        Err(r) => r.number < 13,
+        Ok(_) => false,
     }
-}
-
-// One reading of a place of an opened file: `s` is salvage, every other letter plain reading.
-fn ask(image: &[u8], carried: Carried, mode: u8, place: Place, out: &mut [u8]) -> Told
-    requires { Carries image.now carried }
-    ensures { Asks image.now carried.slot (mode_of mode) place out.old out.new result }
-{
-    if mode == 115 {
-        return salvage_next(image, carried, place, out);
-    }
-    read_next(image, carried, place, out)
 }
 
 // One reading, and its line, which it puts into `line`. The output has 4,096 bytes.
-fn turn(image: &[u8], carried: Carried, mode: u8, place: Place, line: &mut [u8]) -> (Told, usize)
+fn turn(image: &[u8], carried: Carried, mode: Mode, place: Place, line: &mut [u8]) -> (Told, usize)
     requires { Carries image.now carried }
     ensures told { (result.0.answer ≡ read_answer (mode_of mode) image.now carried.slot place (replicate 4096 0)) × (Carries image.now result.0.carried) × (result.0.carried.slot ≡ carried.slot) }
     ensures line { Puts line.old line.new 0 result.1 (reading_line image.now carried.slot mode place (replicate 4096 0)) × (result.1 ≤ 8448) }
 {
     let mut lent = [0u8; 4096];
-    let told = ask(image, carried, mode, place, &mut lent);
+    let told = ask_next(image, carried, mode, place, &mut lent);
     let a = told.answer;
     let length = put_line(line, carried.slot, mode, a, &lent);
     (told, length)
 }
 
 // The row of a file: Start, then each place that is handed out, up to End or a refusal.
-fn follow(rt: &impl Print, image: &[u8], from: Carried, mode: u8) -> io::Result<()>
+fn follow(rt: &impl Print, image: &[u8], from: Carried, mode: Mode) -> io::Result<()>
     requires { Carries image.now from }
 {
     let mut carried = from;
     let mut place = Place::START;
-    let mut left: u64 = 4096;
     let mut line = [0u8; 8448];
-    while 0 < left {
+    for _ in 0..4096 {
         let (told, length) = turn(image, carried, mode, place, &mut line);
         rt.write_all(&line[..length])?;
-        let a = told.answer;
-        if !goes_on(a) {
+        let Some(next) = next_of(told.answer) else {
             return Ok(());
-        }
+        };
         carried = told.carried;
-        place = next_of(a, place);
-        left -= 1;
+        place = next;
     }
     Ok(())
 }
 
 // The first answer of a file, with no line.
-fn first_answer(image: &[u8], carried: Carried) -> Answer
+fn first_answer(image: &[u8], carried: Carried) -> Result<Answer, Refusal>
     requires { Carries image.now carried }
     ensures { result ≡ read_answer plain image.now carried.slot start (replicate 4096 0) }
 {
     let mut lent = [0u8; 4096];
-    let told = ask(image, carried, 114, Place::START, &mut lent);
+    let told = ask_next(image, carried, Mode::Plain, Place::START, &mut lent);
     told.answer
 }
 
@@ -236,34 +208,15 @@ fn rows(rt: &impl Print, image: &[u8]) -> io::Result<()> {
     let first = carry(image, 1);
     if of_volume(first_answer(image, first)) {
         let mut line = [0u8; 8448];
-        let (_, length) = turn(image, first, 114, Place::START, &mut line);
+        let (_, length) = turn(image, first, Mode::Plain, Place::START, &mut line);
         return rt.write_all(&line[..length]);
     }
-    let mut slot: u64 = 1;
-    while slot <= 45 {
+    for slot in 1..=45 {
         let carried = carry(image, slot);
-        follow(rt, image, carried, 114)?;
-        follow(rt, image, carried, 115)?;
-        slot += 1;
+        follow(rt, image, carried, Mode::Plain)?;
+        follow(rt, image, carried, Mode::Salvage)?;
     }
     Ok(())
-}
-
-// Reads until the buffer is full or the input ends. What was read stands at the start of the buffer; the answer is its length.
-fn read_full<R: Read>(input: &mut R, buffer: &mut [u8]) -> io::Result<usize>
-    ensures within { ReadsAtMost result buffer.new }
-    ensures bytes { IfOk result (λ n. Consumes (R.remaining input.old) (R.remaining input.new) (take n buffer.new)) }
-    ensures end { IfOk result (λ n. n < length buffer.new → IsAtEnd (R.remaining input.new)) }
-{
-    let mut filled = 0;
-    while filled < buffer.len() {
-        let n = input.read(&mut buffer[filled..])?;
-        if n == 0 {
-            break;
-        }
-        filled += n;
-    }
-    Ok(filled)
 }
 
 fn main(rt: HostRuntime) -> io::Result<()> {

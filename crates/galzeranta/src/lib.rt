@@ -35,14 +35,14 @@ pub fn galz_find(image: &[u8], name: &[u8]) -> u64
 pub fn galz_count(image: &[u8], slot: u64) -> u64
     ensures { result ≡ packed_counted (counted image.now slot) }
 {
-    packing::pack_counted(files::count(image, slot))
+    packing::pack_number(files::count(image, slot))
 }
 
 // The free records.
 pub fn galz_free(image: &[u8]) -> u64
     ensures { result ≡ packed_counted (free_count image.now) }
 {
-    packing::pack_counted(vacancy::free(image))
+    packing::pack_number(vacancy::free(image))
 }
 
 // The place that a caller asks for: a mark is set if it is not 0.
@@ -50,8 +50,8 @@ fn place_of(block: u64, offset: u64, mark: u64) -> Place
     ensures { result ≡ place_of block offset mark }
 {
     Place {
-        block: block,
-        offset: offset,
+        block,
+        offset,
         mark: !(mark == 0),
     }
 }
@@ -81,7 +81,7 @@ pub fn galz_salvage(
 pub fn galz_write(image: &mut [u8], slot: u64, bodies: &[u8], lengths: &[u32]) -> u64
     ensures { (result ≡ packed_written (written image.old slot bodies.now lengths.now)) × (image.new ≡ image_after image.old slot bodies.now lengths.now) }
 {
-    packing::pack_written(writing::write(image, slot, bodies, lengths))
+    packing::pack_number(writing::write(image, slot, bodies, lengths))
 }
 
 // Creating a file: the 29 bytes of label fields, and the number of its physical records.
@@ -95,5 +95,5 @@ pub fn galz_create(image: &mut [u8], fields: &[u8], n: u64) -> u64
 pub fn galz_delete(image: &mut [u8], slot: u64) -> u64
     ensures { (result ≡ packed_counted (deleted image.old slot)) × (image.new ≡ image_after_delete image.old slot) }
 {
-    packing::pack_counted(deleting::delete(image, slot))
+    packing::pack_number(deleting::delete(image, slot))
 }

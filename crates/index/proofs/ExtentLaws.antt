@@ -1,4 +1,4 @@
--- Refusal 11 on rows of ranks: a slot with no label has an extent that meets none.
+-- Refusal 11 on a row of extents: a slot with no label has an extent that meets none.
 -- Assumes nothing.
 use Rattle.std.proofs.Common.{◌≡◌, ℕ, zero, suc, ◌+◌, ◌-◌, ◌<◌, ◌≤◌, Bool, true, false, cond, ◌&&◌, ◌||◌, leb, List, length, get_or, set, sym, refl, ap, ◌∙◌, subst, eq-or-lt_of_le, add-one, arith, get_or-set_other, get_or-set_same}
 use mathlib.Core.Bool.{and-false}
@@ -15,7 +15,11 @@ use Rattle.promises.specs.Volumes.AcceptedLaws.{fault_none}
 use Rattle.promises.specs.Volumes.Judging.{label_right}
 use Rattle.index.specs.Whole.{Slotted}
 use Rattle.index.specs.declared.Extent.{Extent}
-use Rattle.index.specs.Extents.{start_in, end_in, extent_in, Known, meets}
+use Rattle.index.specs.Extents.{start_in, end_in, extent_in, no_extent, Known, touches}
+use Rattle.std.specs.List.{list_any}
+use lib.ListN.{take}
+use Rattle.std.proofs.lemmas.List.{take_all, length-set}
+use mathlib.Core.List.{[], ◌∷◌}
 use Rattle.index.proofs.SlotLaws.{slot_passed}
 use Rattle.index.proofs.ClashLaws.{below_none}
 
@@ -29,6 +33,17 @@ module _ (g : Geometry) (image : List ℕ) (slot : ℕ) where
       → record { start = a; end = b } ≡ extent_in g image slot
   unfolding start_in end_in
   extent_label a b l e f = simp l (cc)
+
+-- the last of a part of a row is asked as well
+or_swap : (a b c : Bool) → (a || (b || c)) ≡ (b || (a || c))
+or_swap true true c = refl
+or_swap true false c = refl
+or_swap false b c = refl
+
+any_last : {A : Type 0} (p : A → Bool) (row : List A) (n : ℕ) (d : A) → n < length row → list_any p (take (suc n) row) ≡ (p (get_or row n d) || list_any p (take n row))
+any_last p [] n d l = absurd (omega arith)
+any_last p (x ∷ row) zero d l = refl
+any_last p (x ∷ row) (suc n) d l = ap (λ (b : Bool). p x || b) (any_last p row n d (omega arith)) ∙ or_swap (p x) (p (get_or row n d)) (list_any p (take n row))
 
 -- two slots, with or without a label
 tests_agree : (t u : Bool) (a b c d : ℕ) → (t ≡ true → b < 65536) → (u ≡ true → d < 65536)
@@ -53,71 +68,54 @@ module _ (g : Geometry) (image : List ℕ) (s : Slotted g image) where
       (rank g (start_of (label_at g image lower))) (rank g (end_of (label_at g image lower)))
       (end_small slot l m) (end_small lower k n)
 
-  -- the rows hold what the definition asks of the slots below
-  pub meets_is : (starts ends : List ℕ) (slot n : ℕ) → n < slot → slot ≤ slot_count g → Known g image starts ends n
-      → meets starts ends (start_in g image slot) (end_in g image slot) n ≡ clashes_below (shares g image) slot n
-  unfolding meets clashes_below
-  meets_is starts ends slot zero l m k = refl
-  meets_is starts ends slot (suc n) l m k =
-      let e = k.ends_are n (omega arith) ∙ ap (end_in g image) (add-one n) in
-      let f = k.starts_are n (omega arith) ∙ ap (start_in g image) (add-one n) in
-      rw (
-        e,
-        f,
-        shares_is slot (suc n) (omega arith) m (omega arith) (omega arith),
-        meets_is starts ends slot n (omega arith) m
-            (record { starts_are = λ j q. k.starts_are j (omega arith); ends_are = λ j q. k.ends_are j (omega arith) }),
-      )
+  -- the row holds what the definition asks of the slots below
+  pub meets_is : (row : List Extent) (slot n : ℕ) → n < slot → slot ≤ slot_count g → Known g image row n
+      → list_any (touches (extent_in g image slot)) (take n row) ≡ clashes_below (shares g image) slot n
+  unfolding clashes_below
+  meets_is row slot zero l m k = refl
+  meets_is row slot (suc n) l m k =
+      let e = k.extents_are n (omega arith) ∙ ap (extent_in g image) (add-one n) in
+      let rest = meets_is row slot n (omega arith) m (record { long = omega (arith, k.long); extents_are = λ j q. k.extents_are j (omega arith) }) in
+      any_last (touches (extent_in g image slot)) row n no_extent (omega (arith, k.long))
+      ∙ rw (e, rest) (ap (λ (b : Bool). b || clashes_below (shares g image) slot n) (shares_is slot (suc n) (omega arith) m (omega arith) (omega arith)))
 
-  pub shares_by : (starts ends : List ℕ) (slot : ℕ) (x : Extent) (r : Bool) → 1 ≤ slot → slot ≤ slot_count g → Known g image starts ends (slot - 1) → x ≡ extent_in g image slot
-      → r ≡ meets starts ends x.start x.end (slot - 1) → r ≡ clashes_below (shares g image) slot (slot - 1)
-  shares_by starts ends slot x r l m k e h =
-      h ∙ ap (λ (y : Extent). meets starts ends y.start y.end (slot - 1)) e ∙ meets_is starts ends slot (slot - 1) (omega arith) m k
+  pub shares_by : (row : List Extent) (slot : ℕ) (x : Extent) (r : Bool) → 1 ≤ slot → slot ≤ slot_count g → Known g image row (slot - 1) → length row ≡ slot - 1
+      → x ≡ extent_in g image slot → r ≡ list_any (touches x) row → r ≡ clashes_below (shares g image) slot (slot - 1)
+  shares_by row slot x r l m k w e h =
+      let all = sym (take_all (slot - 1) row (omega (arith, w))) in
+      h
+      ∙ ap (λ (y : Extent). list_any (touches y) row) e
+      ∙ ap (list_any (touches (extent_in g image slot))) all
+      ∙ meets_is row slot (slot - 1) (omega arith) m k
 
 pub no_label_shares : (g : Geometry) (image : List ℕ) (slot n : ℕ) → is_label g image slot ≡ false → clashes_below (shares g image) slot n ≡ false
 unfolding shares
 no_label_shares g image slot n l = below_none (shares g image) slot (λ lower. rw l) n
 
--- a turn of the search in the rows
-module _ (starts ends : List ℕ) (start end : ℕ) where
-  abbrev hit : ℕ → Bool
-  hit n = leb start (get_or ends n 0) && leb (get_or starts n 0) end
-
-  meets_go : (n k : ℕ) → n ≡ suc k → meets starts ends start end n ≡ (hit k || meets starts ends start end k)
-  unfolding meets
-  meets_go n k e = rw e
-
-  pub meets_yes : (n : ℕ) → 0 < n → hit (n - 1) ≡ true → meets starts ends start end n ≡ true
-  meets_yes n h t = meets_go n (n - 1) (omega arith) ∙ ap (λ (b : Bool). b || meets starts ends start end (n - 1)) t
-
-  pub meets_more : (n : ℕ) → 0 < n → hit (n - 1) ≡ false → meets starts ends start end n ≡ meets starts ends start end (n - 1)
-  meets_more n h t = meets_go n (n - 1) (omega arith) ∙ ap (λ (b : Bool). b || meets starts ends start end (n - 1)) t
-
-  pub meets_end : (n : ℕ) → n ≤ 0 → meets starts ends start end n ≡ false
-  unfolding meets
-  meets_end n h = let e : n ≡ 0 = omega arith in rw e
-
 -- a row with one more entry
-pub row_more : (f : ℕ → ℕ) (row : List ℕ) (i v : ℕ) → i < length row → ((j : ℕ) → j < i → get_or row j 0 ≡ f (j + 1)) → v ≡ f (i + 1)
-    → (j : ℕ) → j < i + 1 → get_or (set row i v) j 0 ≡ f (j + 1)
-row_more f row i v l h e j m =
+pub row_more : {A : Type 0} (f : ℕ → A) (row : List A) (i : ℕ) (v d : A) → i < length row → ((j : ℕ) → j < i → get_or row j d ≡ f (j + 1)) → v ≡ f (i + 1)
+    → (j : ℕ) → j < i + 1 → get_or (set row i v) j d ≡ f (j + 1)
+row_more f row i v d l h e j m =
     let k : j ≤ i = omega arith in
     either (eq-or-lt_of_le k)
     (λ (q : j ≡ i).
-    ap (λ (x : ℕ). get_or (set row i v) x 0) q ∙ get_or-set_same row i v 0 l ∙ e ∙ ap (λ (x : ℕ). f (x + 1)) (sym q))
-    (λ (q : j < i). get_or-set_other row i j v 0 (λ (z : j ≡ i). omega arith) ∙ h j q)
+    ap (λ (x : ℕ). get_or (set row i v) x d) q ∙ get_or-set_same row i v d l ∙ e ∙ ap (λ (x : ℕ). f (x + 1)) (sym q))
+    (λ (q : j < i). get_or-set_other row i j v d (λ (z : j ≡ i). omega arith) ∙ h j q)
 
 module _ (g : Geometry) (image : List ℕ) where
-  pub known_none : (starts ends : List ℕ) → Known g image starts ends 0
-  known_none starts ends = record { starts_are = λ j l. absurd (omega arith); ends_are = λ j l. absurd (omega arith) }
+  known_at : (row : List Extent) (n m : ℕ) → n ≡ m → Known g image row n → Known g image row m
+  known_at row n m e k = subst (λ (x : ℕ). Known g image row x) e k
 
-  pub known_at : (starts ends : List ℕ) (n m : ℕ) → n ≡ m → Known g image starts ends n → Known g image starts ends m
-  known_at starts ends n m e k = subst (λ (x : ℕ). Known g image starts ends x) e k
-
-  pub known_more : (starts ends : List ℕ) (i : ℕ) (x : Extent) → i < length starts → i < length ends → Known g image starts ends i → x ≡ extent_in g image (i + 1)
-      → Known g image (set starts i x.start) (set ends i x.end) (i + 1)
-  known_more starts ends i x l m k e =
+  known_more : (row : List Extent) (i : ℕ) (x : Extent) → i < length row → Known g image row i → x ≡ extent_in g image (i + 1) → Known g image (set row i x) (i + 1)
+  known_more row i x l k e =
       record {
-        starts_are = row_more (start_in g image) starts i x.start l k.starts_are (ap (λ (y : Extent). y.start) e);
-        ends_are = row_more (end_in g image) ends i x.end m k.ends_are (ap (λ (y : Extent). y.end) e);
+        long = omega (arith, length-set row i x);
+        extents_are = row_more (extent_in g image) row i x no_extent l k.extents_are e;
       }
+
+  -- a row with the extent of a slot more
+  pub known_next : (row : List Extent) (slot : ℕ) (x : Extent) → 1 ≤ slot → slot ≤ length row → Known g image row (slot - 1) → x ≡ extent_in g image slot
+      → Known g image (set row (slot - 1) x) (slot + 1 - 1)
+  known_next row slot x h l k e =
+      let back : slot ≡ slot - 1 + 1 = omega arith in
+      known_at (set row (slot - 1) x) (slot - 1 + 1) (slot + 1 - 1) (omega arith) (known_more row (slot - 1) x (omega arith) k (e ∙ ap (extent_in g image) back))

@@ -1,6 +1,6 @@
 -- Refusal 12: names with different numbers differ, and only labels of known level have one.
 -- Assumes nothing.
-use Rattle.std.proofs.Common.{◌≡◌, ℕ, ◌+◌, ◌%◌, ◌^◌, ◌<◌, Bool, true, false, ◌&&◌, List, length, get_or, drop, set, sym, refl, ap, ◌∙◌, arith, get_or-drop, get_or-take}
+use Rattle.std.proofs.Common.{◌≡◌, ℕ, ◌+◌, ◌%◌, ◌^◌, ◌-◌, ◌<◌, ◌≤◌, Bool, true, false, ◌&&◌, List, length, get_or, drop, set, sym, refl, ap, ◌∙◌, arith, get_or-drop, get_or-take}
 use Rattle.standard.specs.Layout.{label_at}
 use Rattle.standard.specs.Characters.{same}
 use Rattle.standard.specs.Labels.{known_level, name_of}
@@ -42,12 +42,6 @@ module _ (g : Geometry) (image : List ℕ) where
   abbrev pub known_in : ℕ → Bool
   known_in slot = is_label g image slot && known_level (label_at g image slot)
 
-  pub known_not : (slot : ℕ) → is_label g image slot ≡ false → false ≡ known_in slot
-  known_not slot l = rw l
-
-  pub known_by : (slot : ℕ) (r : Bool) → is_label g image slot ≡ true → r ≡ known_level (label_at g image slot) → r ≡ known_in slot
-  known_by slot r l e = rw l e
-
   abbrev same_in : ℕ → ℕ → Bool
   same_in slot lower = same (name_of (label_at g image slot)) (name_of (label_at g image lower))
 
@@ -74,6 +68,9 @@ module _ (g : Geometry) (image : List ℕ) where
         → r ≡ namesake g image slot lower
     both_known r a b k l e p q = e ∙ ap (λ (x : List ℕ). same (name_of x) (name_of b)) p ∙ ap (λ (x : List ℕ). same (name_of (label_at g image slot)) (name_of x)) q ∙ (rw (k, l) at (namesake_is slot lower))
 
-  -- the row of numbers
-  pub keyed_more : (keys : List ℕ) (i key : ℕ) → i < length keys → Keyed g image keys i → key ≡ key_in g image (i + 1) → Keyed g image (set keys i key) (i + 1)
-  keyed_more keys i key l k e = row_more (key_in g image) keys i key l k e
+  -- the row of numbers, with that of a slot more
+  pub keyed_next : (keys : List ℕ) (slot key : ℕ) → 1 ≤ slot → slot ≤ length keys → Keyed g image keys (slot - 1) → key ≡ key_in g image slot
+      → Keyed g image (set keys (slot - 1) key) (slot + 1 - 1)
+  keyed_next keys slot key h l k e j m =
+      let back : slot ≡ slot - 1 + 1 = omega arith in
+      row_more (key_in g image) keys (slot - 1) key 0 (omega arith) k (e ∙ ap (key_in g image) back) j (omega arith)

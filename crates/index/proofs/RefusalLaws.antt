@@ -1,5 +1,6 @@
 -- Refusals 8, 9, 10: what a slot's kind, first byte and label say of it; one turn and the end of the loop over the slots.
 -- Assumes nothing.
+use Rattle.std.specs.Prelude.{Result, Ok, Err, ⊤}
 use Rattle.std.proofs.Common.{◌≡◌, ℕ, suc, ◌+◌, ◌-◌, ◌<◌, ◌≤◌, Bool, true, false, cond, not, ◌&&◌, ◌||◌, eqb, ltb, List, [], ◌∷◌, drop, sym, refl, ap, ◌∙◌, arith, ltb-true, lt-ltb, ne_eqb}
 use Rattle.standard.specs.Layout.{index_sectors, k_at, kind_at, valid_mark, incorrect_mark, check_failed, first_byte, slot_ordinal, label_at}
 use Rattle.standard.specs.Characters.{bytes, same, field}
@@ -8,9 +9,8 @@ use Rattle.standard.specs.Labels.{hdr1_rules, label_fault}
 use Rattle.standard.specs.Refusals.{refuse, refuse_at, given_when, in_order, or_else}
 use Rattle.standard.specs.Slots.{is_label, is_deleted, is_unreadable, slot_refusal, slots_from}
 use Rattle.standard.specs.declared.Geometry.{Geometry}
-use Rattle.standard.specs.declared.Checked.{Checked}
-use Rattle.standard.specs.declared.Checked.TheVariants.{Passed, Stopped}
 use Rattle.promises.specs.Ground.Basics.{by_test, and_l, and_r}
+use Rattle.standard.specs.declared.Refusal.{Refusal}
 use Rattle.layout.proofs.Laws.{k_first}
 
 -- position 1 of the table is `HDR1`, and no other row stands there
@@ -47,7 +47,7 @@ module _ (g : Geometry) (h : List ℕ) where
   is_headed n = by_test headed (λ t. t) (λ t. absurd (n (headless t)))
 
 -- a slot by the byte of its kind, its first byte, whether it has `HDR1`, and its label's fault
-abbrev ruled : ℕ → ℕ → ℕ → Bool → ℕ → Checked
+abbrev ruled : ℕ → ℕ → ℕ → Bool → ℕ → Result ⊤ Refusal
 ruled slot k c s f =
     in_order
     (given_when (eqb k 32 || (eqb k 16 && eqb c 70)) (refuse 8 slot)
@@ -69,11 +69,11 @@ module _ (g : Geometry) (image : List ℕ) (slot : ℕ) (h : slot + 6 < index_se
     by_kind : slot_refusal g image slot ≡ ruled slot k (first_byte g image (slot_ordinal slot)) (headed g (label_at g image slot)) (label_fault g (label_at g image slot))
     by_kind = slot_form ∙ ap (λ (x : ℕ). ruled slot x (first_byte g image (slot_ordinal slot)) (headed g (label_at g image slot)) (label_fault g (label_at g image slot))) e
 
-    pub no_mark : (k ≡ 0 → ⊥) → (k ≡ 16 → ⊥) → (k ≡ 32 → ⊥) → Stopped (refuse 9 slot) ≡ slot_refusal g image slot
+    pub no_mark : (k ≡ 0 → ⊥) → (k ≡ 16 → ⊥) → (k ≡ 32 → ⊥) → Err (refuse 9 slot) ≡ slot_refusal g image slot
     unfolding in_order given_when
     no_mark a b c = sym (by_kind ∙ simp (ne_eqb k 0 a, ne_eqb k 16 b, ne_eqb k 32 c))
 
-  pub failed_mark : kind_at g image (slot_ordinal slot) ≡ 32 → Stopped (refuse 8 slot) ≡ slot_refusal g image slot
+  pub failed_mark : kind_at g image (slot_ordinal slot) ≡ 32 → Err (refuse 8 slot) ≡ slot_refusal g image slot
   unfolding in_order given_when
   failed_mark e = sym (by_kind 32 e)
 
@@ -82,15 +82,15 @@ module _ (g : Geometry) (image : List ℕ) (slot : ℕ) (h : slot + 6 < index_se
     by_first : slot_refusal g image slot ≡ ruled slot 16 c (headed g (label_at g image slot)) (label_fault g (label_at g image slot))
     by_first = by_kind 16 e ∙ ap (λ (x : ℕ). ruled slot 16 x (headed g (label_at g image slot)) (label_fault g (label_at g image slot))) (sym f)
 
-    pub deleted : c ≡ 68 → Passed ≡ slot_refusal g image slot
+    pub deleted : c ≡ 68 → Ok tt ≡ slot_refusal g image slot
     unfolding in_order given_when
     deleted d = sym (by_first ∙ ap (λ (x : ℕ). ruled slot 16 x (headed g (label_at g image slot)) (label_fault g (label_at g image slot))) d)
 
-    pub unreadable : c ≡ 70 → Stopped (refuse 8 slot) ≡ slot_refusal g image slot
+    pub unreadable : c ≡ 70 → Err (refuse 8 slot) ≡ slot_refusal g image slot
     unfolding in_order given_when
     unreadable d = sym (by_first ∙ ap (λ (x : ℕ). ruled slot 16 x (headed g (label_at g image slot)) (label_fault g (label_at g image slot))) d)
 
-    pub neither : (c ≡ 68 → ⊥) → (c ≡ 70 → ⊥) → Stopped (refuse 9 slot) ≡ slot_refusal g image slot
+    pub neither : (c ≡ 68 → ⊥) → (c ≡ 70 → ⊥) → Err (refuse 9 slot) ≡ slot_refusal g image slot
     unfolding in_order given_when
     neither a b = sym (by_first ∙ simp (ne_eqb c 68 a, ne_eqb c 70 b))
 
@@ -102,36 +102,32 @@ module _ (g : Geometry) (image : List ℕ) (slot : ℕ) (h : slot + 6 < index_se
         ∙ ap (λ (x : Bool). ruled slot 0 (first_byte g image (slot_ordinal slot)) x (label_fault g (label_at g image slot))) t
         ∙ ap (λ (x : ℕ). ruled slot 0 (first_byte g image (slot_ordinal slot)) s x) (sym q)
 
-    pub label_passed : f ≡ 0 → Passed ≡ slot_refusal g image slot
+    pub label_passed : f ≡ 0 → Ok tt ≡ slot_refusal g image slot
     unfolding in_order given_when
     label_passed z =
         sym (by_label true (is_headed g (label_at g image slot) (λ o. omega arith))
         ∙ ap (λ (x : ℕ). ruled slot 0 (first_byte g image (slot_ordinal slot)) true x) z)
 
-    pub no_label : f ≡ 1 → Stopped (refuse 9 slot) ≡ slot_refusal g image slot
+    pub no_label : f ≡ 1 → Err (refuse 9 slot) ≡ slot_refusal g image slot
     unfolding in_order given_when
     no_label o = sym (by_label false (not_headed g (label_at g image slot) (omega arith)))
 
-    pub label_broken : (f ≡ 0 → ⊥) → (f ≡ 1 → ⊥) → Stopped (refuse_at 10 slot f) ≡ slot_refusal g image slot
+    pub label_broken : (f ≡ 0 → ⊥) → (f ≡ 1 → ⊥) → Err (refuse_at 10 slot f) ≡ slot_refusal g image slot
     unfolding in_order given_when
     label_broken a b =
         sym (by_label true (is_headed g (label_at g image slot) (λ o. b (omega arith))) ∙ simp (lt-ltb 0 f (omega (arith, a))))
 
--- the loop over the slots: i of m are passed
-module _ (g : Geometry) (image : List ℕ) (m i : ℕ) where
-  slots_go : (k : ℕ) → m - i ≡ suc k → slots_from g image (m - i) (i + 1) ≡ or_else (slot_refusal g image (i + 1)) (slots_from g image k (i + 1 + 1))
+-- the loop over the slots: those below this one are passed
+module _ (g : Geometry) (image : List ℕ) (count slot : ℕ) where
+  slots_go : (k : ℕ) → count + 1 - slot ≡ suc k → slots_from g image (count + 1 - slot) slot ≡ or_else (slot_refusal g image slot) (slots_from g image k (slot + 1))
   unfolding slots_from
   slots_go k e = rw e
 
-  slots_next : i < m → slots_from g image (m - i) (i + 1) ≡ or_else (slot_refusal g image (i + 1)) (slots_from g image (m - (i + 1)) (i + 1 + 1))
-  slots_next h = slots_go (m - (i + 1)) (omega arith)
+  pub slots_stop : (c d : Result ⊤ Refusal) → slot < count + 1 → c ≡ slot_refusal g image slot → c ≡ d
+      → or_else d (slots_from g image (count + 1 - (slot + 1)) (slot + 1)) ≡ slots_from g image (count + 1 - slot) slot
+  slots_stop c d h e f =
+      sym (slots_go (count + 1 - (slot + 1)) (omega arith) ∙ ap (λ (x : Result ⊤ Refusal). or_else x (slots_from g image (count + 1 - (slot + 1)) (slot + 1))) (sym e ∙ f))
 
-  pub slots_stop : (c d : Checked) → i < m → c ≡ slot_refusal g image (i + 1) → c ≡ d → or_else d (slots_from g image (m - (i + 1)) (i + 1 + 1)) ≡ slots_from g image (m - i) (i + 1)
-  slots_stop c d h e f = sym (slots_next h ∙ ap (λ (x : Checked). or_else x (slots_from g image (m - (i + 1)) (i + 1 + 1))) (sym e ∙ f))
-
-  pub slots_end : m ≤ i → slots_from g image (m - i) (i + 1) ≡ Passed
+  pub slots_end : count + 1 ≤ slot → slots_from g image (count + 1 - slot) slot ≡ Ok tt
   unfolding slots_from
-  slots_end h = let e : m - i ≡ 0 = omega arith in rw e
-
-pub slots_start : (g : Geometry) (image : List ℕ) (m n : ℕ) → n ≡ m → slots_from g image m 1 ≡ slots_from g image (n - 0) (0 + 1)
-slots_start g image m n e = let f : m ≡ n - 0 = omega arith in ap (λ (k : ℕ). slots_from g image k 1) f
+  slots_end h = let e : count + 1 - slot ≡ 0 = omega arith in rw e

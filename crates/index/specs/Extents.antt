@@ -1,6 +1,6 @@
 -- The extents of the slots, as ranks.
 -- Assumes nothing.
-use Rattle.std.specs.Prelude.{◌≡◌, ℕ, zero, suc, ◌+◌, ◌<◌, Bool, false, cond, ◌&&◌, ◌||◌, List, nat_le, slice_index}
+use Rattle.std.specs.Prelude.{◌≡◌, ℕ, ◌+◌, ◌<◌, ◌≤◌, Bool, cond, ◌&&◌, List, length, get_or, nat_le}
 use Rattle.standard.specs.Layout.{label_at}
 use Rattle.standard.specs.Addresses.{rank}
 use Rattle.standard.specs.Labels.{start_of, end_of}
@@ -18,12 +18,15 @@ end_in g image slot = cond (is_label g image slot) (rank g (end_of (label_at g i
 abbrev pub extent_in : Geometry → List ℕ → ℕ → Extent
 extent_in g image slot = record { start = start_in g image slot; end = end_in g image slot }
 
--- two rows hold the extents of the slots 1 to n
-pub record Known (g : Geometry) (image starts ends : List ℕ) (n : ℕ) : Type 0 where
-  pub starts_are : (j : ℕ) → j < n → slice_index starts j ≡ start_in g image (j + 1)
-  pub ends_are : (j : ℕ) → j < n → slice_index ends j ≡ end_in g image (j + 1)
+-- a slot with no label's
+abbrev pub no_extent : Extent
+no_extent = record { start = 4294967295; end = 0 }
 
--- whether an extent shares a record with one of the first n of two rows
-unfoldable pub meets : List ℕ → List ℕ → ℕ → ℕ → ℕ → Bool
-meets starts ends start end zero = false
-meets starts ends start end (suc n) = (nat_le start (slice_index ends n) && nat_le (slice_index starts n) end) || meets starts ends start end n
+-- a row holds the extents of the slots 1 to n
+pub record Known (g : Geometry) (image : List ℕ) (row : List Extent) (n : ℕ) : Type 0 where
+  pub long : n ≤ length row
+  pub extents_are : (j : ℕ) → j < n → get_or row j no_extent ≡ extent_in g image (j + 1)
+
+-- whether two extents share a record
+abbrev pub touches : Extent → Extent → Bool
+touches x e = nat_le x.start e.end && nat_le e.start x.end

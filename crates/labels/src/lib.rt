@@ -8,8 +8,8 @@ ghost use Rattle.standard.specs.Addresses.{address_in, rank};
 ghost use Rattle.standard.specs.Labels.{level, known_level, name_of, block_length, start_of, end_of, record_length, unused_count, is_blocked, data_end_of, format_of};
 ghost use Rattle.labels.specs.Forms.{form_in};
 
-use fields::{Class, all_of, is, number_4, number_5, one_of_1, one_of_2, rank_of, same_as};
-use standard::{Address, Geometry, wide};
+use fields::{all_spaces, is, number_in, rank_of, same_as};
+use standard::{Address, Geometry};
 
 // "40 space or F (fixed), V, S"
 #[derive(Clone, Copy)]
@@ -32,9 +32,10 @@ pub fn level_of(h: &[u8]) -> u64
     requires { length h.now ≡ 128 }
     ensures { (result ≡ level h.now) × (result < 256) }
 {
-    wide(h[43])
+    u64::from(h[43])
 }
 
+#[tactic(auto, unfolding(standard::specs::Labels::known_level))]
 pub fn known_level(h: &[u8]) -> bool
     requires { length h.now ≡ 128 }
     ensures { result ≡ known_level h.now }
@@ -93,18 +94,16 @@ pub fn data_end_rank(g: Geometry, h: &[u8]) -> u64
 }
 
 // The format of a label.
+#[tactic(auto, unfolding(standard::specs::Labels::format_of))]
 pub fn form_of(h: &[u8]) -> Form
     requires { length h.now ≡ 128 }
     ensures { result ≡ form_in (format_of h.now) }
 {
-    let c = wide(h[39]);
-    if c == 86 {
-        return Form::Variable;
+    match h[39] {
+        b'V' => Form::Variable,
+        b'S' => Form::Spanned,
+        _ => Form::Fixed,
     }
-    if c == 83 {
-        return Form::Spanned;
-    }
-    Form::Fixed
 }
 
 // "63 space, or B for blocked"
@@ -112,7 +111,7 @@ pub fn is_blocked(h: &[u8]) -> bool
     requires { length h.now ≡ 128 }
     ensures { result ≡ is_blocked h.now }
 {
-    is(wide(h[62]), 66)
+    is(u64::from(h[62]), 66)
 }
 
 // "23-27 block length B"
@@ -120,29 +119,31 @@ pub fn block_length(h: &[u8]) -> u64
     requires { length h.now ≡ 128 }
     ensures { (result ≡ block_length h.now) × (result < 10000000) }
 {
-    number_5(&h[22..27])
+    number_in(&h[22..27])
 }
 
 // "54-57 record length R; spaces mean R = B."
+#[tactic(auto, unfolding(standard::specs::Labels::record_length))]
 pub fn record_length(h: &[u8]) -> u64
     requires { length h.now ≡ 128 }
     ensures { (result ≡ record_length h.now) × (result < 10000000) }
 {
     let f = &h[53..57];
-    if all_of(Class::Space, f) {
+    if all_spaces(f) {
         return block_length(h);
     }
-    number_4(f)
+    number_in(f)
 }
 
 // "58-62 unused count U, spaces meaning 0"
+#[tactic(auto, unfolding(standard::specs::Labels::unused_count))]
 pub fn unused_count(h: &[u8]) -> u64
     requires { length h.now ≡ 128 }
     ensures { (result ≡ unused_count h.now) × (result < 10000000) }
 {
     let f = &h[57..62];
-    if all_of(Class::Space, f) {
+    if all_spaces(f) {
         return 0;
     }
-    number_5(f)
+    number_in(f)
 }

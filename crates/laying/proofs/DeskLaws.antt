@@ -1,16 +1,16 @@
 -- From what the pen laid to what the record is: the laws that the writer's functions cite.
 -- Assumes nothing.
-use Prim.Native.Nat.{ℕ, suc, ◌+◌, ◌-◌, ◌<◌, ◌≤◌}
+use Prim.Native.Nat.{ℕ, min, suc, ◌+◌, ◌-◌, ◌<◌, ◌≤◌}
 use mathlib.Core.Path.{◌≡◌, refl, sym, ap, subst, ◌∙◌}
 use mathlib.Core.Bool.{Bool, true, false, cond}
 use mathlib.Core.List.{List, [], ◌∷◌, ◌++◌, append_assoc, append-nil}
 use lib.ListN.{length, length-replicate, get_or, take, drop, length-drop, length-append, drop_of_length-le}
-use lib.Seq.{length-take-le, drop-drop, drop-cons, take_all, take-take}
+use lib.Seq.{length-take-le, drop-drop, drop-cons, take_all, take-take, take-nil, drop-nil}
 use lib.Dec.{leb}
 use native.Mathlib.Omega.{arith}
 use native.Mathlib.Nat.{not-suc-le-zero}
 use native.Mathlib.Numerals.{add-one}
-use borrow.Author.Tests.{leb-true, leb-false, le-leb, lt-leb}
+use borrow.Author.Tests.{leb-true}
 use Rattle.standard.specs.Characters.{padded}
 use Rattle.standard.specs.Labels.{Format, fixed, variable, spanned}
 use Rattle.standard.specs.Pieces.{Role}
@@ -33,6 +33,7 @@ use Rattle.extents.proofs.CursorLaws.{stand_none}
 use Rattle.blocks.proofs.BlockLaws.{drop_take}
 use Rattle.filling.specs.Poured.{poured, laid_by, Lays, packed, word_s, flat}
 use Rattle.filling.proofs.PenLaws.{lays_done, lays_then}
+use Rattle.filling.proofs.RunLaws.{take_over, drop_over}
 use Rattle.filling.specs.declared.Pen.{Pen}
 use Rattle.laying.specs.Ahead.{flat_laid, lay_record, lay_from, fits_as, chunks, Shaped, Ready, HasRoom, Steps}
 use Rattle.laying.specs.declared.Shape.{Shape}
@@ -55,14 +56,6 @@ one_laid g i i₁ p p₁ xs h all rest tail e =
 -- data with no fill behind it
 pub lays_plain : (g : Geometry) (i i' : List ℕ) (p p' : Pen) (xs : List ℕ) → Lays g i p (xs ++ fill 0) i' p' → Lays g i p xs i' p'
 lays_plain g i i' p p' xs h = subst (λ (ys : List ℕ). Lays g i p ys i' p') (append-nil xs) h
-
--- ---- THE CURRENT BLOCK, or the next
-pub room_here : (g : Geometry) (s : Shape) (i : List ℕ) (d : Desk) (need : ℕ) → Ready g i s d → need ≤ d.room → HasRoom g s i d need i d
-room_here g s i d need r h = rw (le-leb need d.room h) (((λ more. refl), r.0), refl, refl)
-
-pub room_next : (g : Geometry) (s : Shape) (i i₁ : List ℕ) (d d₁ : Desk) (need : ℕ) → d.room < need → Lays g i d.p (fill d.rest) i₁ d₁.p
-    → d₁.room ≡ s.B → d₁.rest ≡ s.size → HasRoom g s i d need i₁ d₁
-room_next g s i i₁ d d₁ need h l er es = rw (lt-leb need d.room h) (l, er, es)
 
 -- ---- F AND V: a record that stands whole in its block
 cond_low : (t : Bool) (a b c : ℕ) → (t ≡ true → c ≤ a) → (t ≡ false → c ≤ b) → c ≤ cond t a b
@@ -216,13 +209,6 @@ segment_laid g i i₁ i₂ p p₁ p₂ role digit x n zeros e r h k =
     rw (e, sym r) (ap (λ (l : List ℕ). (48 + digit) ∷ l) (sym (append_assoc (padded 4 (5 + n)) x (fill zeros)))) in
     subst (λ (l : List ℕ). Lays g i p l i₂ p₂) q w
 
--- a record of V or of S, as the shape has it
-pub of_shape : (g : Geometry) (s : Shape) (i i' : List ℕ) (d d' : Desk) (x : List ℕ) (t : Bool) → s.spanned ≡ t
-    → Steps g s i d (λ more. lay_record t s.joined s.B d.room x more) i' d'
-    → Steps g s i d (λ more. lay_record s.spanned s.joined s.B d.room x more) i' d'
-of_shape g s i i' d d' x t e h =
-    subst (λ (k : Bool). Steps g s i d (λ more. lay_record k s.joined s.B d.room x more) i' d') (sym e) h
-
 -- ---- THE LIST, record by record
 module _ (g : Geometry) (s : Shape) (bodies lengths : List ℕ) where
   -- what is to be laid from record i on, whose body begins at `from`, and what follows
@@ -354,45 +340,39 @@ module _ (g : Geometry) (i i' : List ℕ) (p p' : Pen) (R : ℕ) (blocked : Bool
     listed_spanned e h = form_is Spanned e (listed_s (fits_in form Spanned B lengths e fits) h)
 
 -- ---- F: block by block
-module _ (g : Geometry) (B size : ℕ) (bodies : List ℕ) where
-  abbrev pub BlocksFrom : List ℕ → Pen → ℕ → List ℕ → List ℕ
-  BlocksFrom i p from tail = laid_by g i p (flat size (chunks B (drop from bodies)) ++ tail)
+-- behind a block of B bytes, or of all that is left, stands the rest
+cut_at : (B : ℕ) (x rest : List ℕ) → length x ≡ min B (length x + length rest) → (take B (x ++ rest) ≡ x) × (drop B (x ++ rest) ≡ rest)
+cut_at B x rest e = (take_over B x rest (omega arith) ∙ ap (λ (t : List ℕ). x ++ t) (over rest e).0 ∙ append-nil x, drop_over B x rest (omega arith) ∙ (over rest e).1)
+  where
+    over : (rest : List ℕ) → length x ≡ min B (length x + length rest) → (take (B - length x) rest ≡ []) × (drop (B - length x) rest ≡ rest)
+    over [] e = (take-nil (B - length x), drop-nil (B - length x))
+    over (y ∷ rest) e =
+        let z : B - length x ≡ 0 = omega arith in
+        (ap (λ (k : ℕ). take k (y ∷ rest)) z, ap (λ (k : ℕ). drop k (y ∷ rest)) z)
 
-  -- the next block: B bytes, or what is left
-  cut_at : (t : Bool) (s : List ℕ) → leb B (length s) ≡ t → (take B s ≡ take (cond t B (length s)) s) × (drop B s ≡ drop (cond t B (length s)) s) × (length (take B s) ≡ cond t B (length s))
-  cut_at true s e = (refl, refl, length-take-le B s (leb-true B (length s) e))
-  cut_at false s e =
-      let l = leb-false B (length s) e in
-      let all : take B s ≡ s = take_all B s (omega arith) in
-      let over-end : length s ≤ B = omega arith in
-      let at_end : length s ≤ length s = omega arith in
-      (all ∙ sym (take_all (length s) s at_end), drop_of_length-le s over-end ∙ sym (drop_of_length-le s at_end), ap length all)
+module _ (g : Geometry) (B size : ℕ) where
+  abbrev pub BlocksFrom : List ℕ → Pen → List ℕ → List ℕ → List ℕ
+  BlocksFrom i p s tail = laid_by g i p (flat size (chunks B s) ++ tail)
 
-  pub block_on : (i i' : List ℕ) (p p' : Pen) (from n : ℕ) → 1 ≤ B → B ≤ size → from < length bodies → n ≡ cond (leb B (length bodies - from)) B (length bodies - from)
-      → Lays g i p (packed bodies from n (size - n)) i' p' → (tail : List ℕ) → BlocksFrom i p from tail ≡ BlocksFrom i' p' (from + n) tail
+  -- a block, and its fill
+  pub block_on : (i i' : List ℕ) (p p' : Pen) (s x rest : List ℕ) → 1 ≤ B → s ≡ x ++ rest → length x ≡ min B (length s) → 0 < length s
+      → Lays g i p (packed x 0 (length x) (size - length x)) i' p' → (tail : List ℕ) → BlocksFrom i p s tail ≡ BlocksFrom i' p' rest tail
   unfolding flat
-  block_on i i' p p' from n b z l e h tail =
-      let s = drop from bodies in
-      let ls : length s ≡ length bodies - from = length-drop from bodies in
-      let k = cut_at (leb B (length s)) s refl in
-      let en : cond (leb B (length s)) B (length s) ≡ n = ap (λ (q : ℕ). cond (leb B q) B q) ls ∙ sym e in
-      let front : take B s ≡ take n s = k.0 ∙ ap (λ (q : ℕ). take q s) en in
-      let back : drop B s ≡ drop (from + n) bodies = k.1 ∙ (ap (λ (q : ℕ). drop q s) en ∙ drop-drop n from bodies) in
-      let next : chunks B s ≡ take B s ∷ chunks B (drop (from + n) bodies) = chunks_next B s b (omega arith) ∙ ap (λ (y : List ℕ). take B s ∷ chunks B y) back in
-      let one : flat size (chunks B s) ≡ packed bodies from n (size - n) ++ flat size (chunks B (drop (from + n) bodies)) =
+  block_on i i' p p' s x rest b e n l h tail =
+      let both : length s ≡ length x + length rest = ap length e ∙ length-append x rest in
+      let k = cut_at B x rest (omega arith) in
+      let next : chunks B s ≡ x ∷ chunks B rest =
+      chunks_next B s b l ∙ ap (λ (t : List ℕ). take B t ∷ chunks B (drop B t)) e ∙ ap (λ (t : List ℕ). t ∷ chunks B (drop B (x ++ rest))) k.0 ∙ ap (λ (t : List ℕ). x ∷ chunks B t) k.1 in
+      let whole : take (length x) x ≡ x = take_all (length x) x (omega arith) in
+      let one : flat size (chunks B s) ≡ packed x 0 (length x) (size - length x) ++ flat size (chunks B rest) =
       ap (flat size) next
-      ∙ ap (λ (y : List ℕ). y ++ flat size (chunks B (drop (from + n) bodies))) (filled_by size n (take B s) (k.2 ∙ en) ∙ ap (λ (y : List ℕ). y ++ fill (size - n)) front) in
-      one_laid g i i' p p' (packed bodies from n (size - n)) h (flat size (chunks B s)) (flat size (chunks B (drop (from + n) bodies))) tail one
+      ∙ ap (λ (y : List ℕ). y ++ flat size (chunks B rest)) (filled_by size (length x) x refl ∙ ap (λ (y : List ℕ). y ++ fill (size - length x)) (sym whole)) in
+      one_laid g i i' p p' (packed x 0 (length x) (size - length x)) h (flat size (chunks B s)) (flat size (chunks B rest)) tail one
 
-  pub blocks_end : (i : List ℕ) (p : Pen) (from : ℕ) → length bodies ≤ from → (tail : List ℕ) → BlocksFrom i p from tail ≡ laid_by g i p tail
+  pub blocks_end : (i : List ℕ) (p : Pen) (s : List ℕ) → length s ≡ 0 → (tail : List ℕ) → BlocksFrom i p s tail ≡ laid_by g i p tail
   unfolding flat
-  blocks_end i p from l tail =
-      ap (λ (s : List ℕ). laid_by g i p (flat size (chunks B s) ++ tail)) (drop_of_length-le bodies l)
-      ∙ ap (λ (cs : List (List ℕ)). laid_by g i p (flat size cs ++ tail)) (chunks_none B)
-
--- a block has a byte or more
-pub least_some_of : (B left n : ℕ) → 1 ≤ B → n ≡ cond (leb B left) B left → 1 ≤ left → 1 ≤ n
-least_some_of B left n b e l = subst (λ (k : ℕ). 1 ≤ k) (sym e) (cond_low (leb B left) B left 1 (λ _. b) (λ _. l))
+  blocks_end i p [] l tail = ap (λ (cs : List (List ℕ)). laid_by g i p (flat size cs ++ tail)) (chunks_none B)
+  blocks_end i p (y ∷ s) l tail = absurd (omega arith)
 
 pub tiled_some : (R B : ℕ) (lengths : List ℕ) → Tiled R B lengths → 1 ≤ B
 tiled_some R B lengths t = omega (arith, t.some, t.high)

@@ -4,19 +4,20 @@
 #![tactic(auto)]
 
 ghost use Rattle.std.specs.Prelude.{◌≡◌, true, false, cond, ◌++◌, ℕ, suc, ◌+◌, ◌*◌, ◌<◌, ◌≤◌, length, take, drop};
-ghost use Rattle.standard.specs.Packing.{fill, role_byte, segment, segment_role, spread, pack_in};
+ghost use Rattle.standard.specs.Packing.{fill, segment, segment_role, spread, pack_in};
 ghost use Rattle.standard.specs.Writing.{total, parted};
 ghost use Rattle.promises.specs.Ground.Lists.{Every};
 ghost use Rattle.promises.specs.Writing.NeededLaws.{least_for, EachFits, Tiled};
 ghost use Rattle.labels.specs.Forms.{format_for};
 ghost use Rattle.extents.specs.Cursors.{legal_at, standing};
 ghost use Rattle.layout.specs.Room.{Sized};
+ghost use Rattle.blocks.specs.Roles.{role_for};
 ghost use Rattle.filling.specs.Poured.{poured, flat, Placed, Lays};
 ghost use Rattle.laying.specs.Ahead.{lay_from, lay_record, fits_as, chunks, flat_laid, Shaped, Ready, HasRoom, Steps};
 
+use blocks::Role;
 use extents::Cursor;
-use fields::wide16;
-use filling::{Pen, begin, least, put, put_length, put_segment};
+use filling::{Pen, begin, put, put_length, put_segment};
 use labels::Form;
 use sizing::least_for;
 use standard::Geometry;
@@ -93,20 +94,16 @@ fn lay_variable(
     }
 }
 
-// The digit of a segment: `0` alone, `1` the first, `2` between, `3` the last.
-fn role_of(begun: bool, ends: bool) -> u64
-    ensures { (48 + result ≡ role_byte (segment_role begun ends)) × (result < 4) }
+// What a segment is to its record: `0` alone, `1` the first, `2` between, `3` the last.
+fn role_of(begun: bool, ends: bool) -> Role
+    ensures { role_for result ≡ segment_role begun ends }
 {
-    if begun {
-        if ends {
-            return 3;
-        }
-        return 2;
+    match (begun, ends) {
+        (false, true) => Role::Whole,
+        (false, false) => Role::First,
+        (true, false) => Role::Middle,
+        (true, true) => Role::Last,
     }
-    if ends {
-        return 0;
-    }
-    1
 }
 
 // A segment with n bytes of a body, and fill behind it.
@@ -124,7 +121,8 @@ fn lay_segment(
     requires { (Placed g image.old p) × (from + n ≤ length bodies.now) × (n < 4294967296) × (zeros < 4294967296) }
     ensures { Lays g image.old p (segment (segment_role begun ends) (take n (drop from bodies.now)) ++ fill zeros) image.new result }
 {
-    let q = put_segment(g, image, p, role_of(begun, ends), 5 + n);
+    let role = role_of(begun, ends);
+    let q = put_segment(g, image, p, role.digit(), 5 + n);
     put(g, image, q, bodies, from, n, zeros)
 }
 
@@ -219,13 +217,11 @@ fn lay_records(
         room: 0,
         rest: 0,
     };
-    let mut i = 0;
     let mut from = 0;
-    while i < lengths.len() {
-        let n = lengths[i] as u64;
+    for &length in lengths {
+        let n = u64::from(length);
         d = lay_record(g, image, s, d, bodies, from, n);
         from += n;
-        i += 1;
     }
     let p = d.p;
     put(g, image, p, b"", 0, 0, d.rest)
@@ -236,13 +232,10 @@ fn lay_blocks(g: Geometry, image: &mut [u8], start: Pen, B: u64, size: u64, bodi
     requires { (Placed g image.old start) × (1 ≤ B) × (B ≤ size) × (size < 4294967296) }
     ensures { Lays g image.old start (flat size (chunks B bodies.now)) image.new result }
 {
-    let end = bodies.len() as u64;
     let mut p = start;
-    let mut from = 0;
-    while from < end {
-        let n = least(B, end - from);
-        p = put(g, image, p, bodies, from, n, size - n);
-        from += n;
+    for block in bodies.chunks(B as usize) {
+        let n = block.len() as u64;
+        p = put(g, image, p, block, 0, n, size - n);
     }
     p
 }
@@ -270,8 +263,8 @@ fn lay_list(
             Shape {
                 spanned: false,
                 joined: blocked,
-                B: B,
-                size: size,
+                B,
+                size,
             },
             p,
             bodies,
@@ -283,8 +276,8 @@ fn lay_list(
             Shape {
                 spanned: true,
                 joined: true,
-                B: B,
-                size: size,
+                B,
+                size,
             },
             p,
             bodies,
@@ -314,7 +307,7 @@ pub fn store(
     if c.left == 0 {
         return;
     }
-    let size = m * wide16(g.P);
+    let size = m * u64::from(g.P);
     let p = begin(g, image, c);
     lay_list(g, image, p, form, blocked, B, size, bodies, lengths);
 }

@@ -1,33 +1,22 @@
 -- Refusal 6 by runs: a walk at equal distances finds the first sector whose kind is none of its three.
 -- Assumes nothing.
-use Prim.Native.Nat.{ℕ, zero, suc, ◌+◌, ◌-◌, ◌*◌, ◌/◌, ◌<◌, ◌≤◌}
+use Rattle.std.specs.Prelude.{Ok, Err, Some, None}
+use Prim.Native.Nat.{ℕ, zero, suc, ◌+◌, ◌-◌, ◌*◌, ◌<◌, ◌≤◌}
 use mathlib.Core.Path.{◌≡◌, refl, sym, ap, ◌∙◌}
-use mathlib.Core.Bool.{Bool, true, false, not, cond}
+use mathlib.Core.Bool.{Bool, true, false, cond}
 use mathlib.Core.List.{List}
 use lib.ListN.{length, get_or}
+use lib.Dec.{ltb}
 use native.Mathlib.Omega.{arith}
-use native.Mathlib.Nat.{add-mul, mul-le-mul_right, div-eq_of_eq-mul_left}
-use borrow.Author.Tests.{not-true, not-false}
+use native.Mathlib.Nat.{add-mul}
+use borrow.Author.Tests.{lt-ltb, le-ltb, ltb-true, ltb-false}
 use Rattle.standard.specs.Layout.{index_sectors, sector_count, image_length, k_at, kind_offset, kind_at, valid_mark, incorrect_mark, check_failed}
 use Rattle.standard.specs.Refusals.{refuse}
 use Rattle.standard.specs.Judgement.{legal_kind, kinds_from, refusal6}
 use Rattle.standard.specs.declared.Geometry.{Geometry}
-use Rattle.standard.specs.declared.Checked.TheVariants.{Passed, Stopped}
-use Rattle.promises.specs.Ground.Basics.{either, lt_or_le, by_test}
-use Rattle.layout.specs.Runs.{kind_of, legal_run}
+use Rattle.promises.specs.Ground.Basics.{by_test, never}
+use Rattle.layout.specs.Runs.{kind_of, legal_run, below}
 use Rattle.layout.proofs.Laws.{offset_first, offset_later, k_first, k_later}
-
--- the walk stands at `at`, with `left` of n sectors left
-pub record Walk (image : List ℕ) (size k n first at : ℕ) : Type 0 where
-  pub left : ℕ
-  pub few : left ≤ n
-  pub reach : at + left * size ≡ first + n * size
-  pub same : legal_run image size k n first ≡ n - left + legal_run image size k left at
-
-one_turn : (left size : ℕ) → 0 < left → left * size ≡ size + (left - 1) * size
-one_turn left size h =
-    let e : left ≡ 1 + (left - 1) = omega arith in
-    ap (λ (x : ℕ). x * size) e ∙ add-mul 1 (left - 1) size ∙ ap (λ (x : ℕ). x + (left - 1) * size) (omega arith)
 
 module _ (image : List ℕ) (size k : ℕ) where
   run_go : (left m at : ℕ) → left ≡ suc m → legal_run image size k left at ≡ cond (kind_of k (get_or image at 0)) (suc (legal_run image size k m (at + size))) 0
@@ -43,52 +32,31 @@ module _ (image : List ℕ) (size k : ℕ) where
   unfolding legal_run
   run_none at = refl
 
-  module _ (n first : ℕ) where
-    pub walk_start : Walk image size k n first first
-    walk_start = record { left = n; few = omega arith; reach = refl; same = omega arith }
+  -- behind i of n sectors, all of them legal
+  module _ (n first i : ℕ) (w : legal_run image size k n first ≡ i + legal_run image size k (n - i) (first + i * size)) where
+    turn : (i + 1) * size ≡ i * size + size
+    turn = add-mul i 1 size ∙ ap (λ (x : ℕ). i * size + x) (omega arith)
 
-    module _ (at : ℕ) (w : Walk image size k n first at) where
-      passed : at ≡ first + (n - w.left) * size
-      passed =
-          let e : n ≡ (n - w.left) + w.left = omega (arith, w.few) in
-          omega (arith, w.reach, ap (λ (x : ℕ). x * size) e, add-mul (n - w.left) w.left size)
+    pub run_on : i < n → kind_of k (get_or image (first + i * size) 0) ≡ true
+        → legal_run image size k n first ≡ i + 1 + legal_run image size k (n - (i + 1)) (first + (i + 1) * size)
+    run_on h t =
+        let r = run_by true (n - i) (first + i * size) (omega (arith, h)) t in
+        let e : n - i - 1 ≡ n - (i + 1) = omega arith in
+        let f : first + i * size + size ≡ first + (i + 1) * size = omega (arith, turn) in
+        w ∙ ap (λ (x : ℕ). i + x) (r ∙ ap (λ (x : ℕ). suc (legal_run image size k x (first + i * size + size))) e ∙ ap (λ (x : ℕ). suc (legal_run image size k (n - (i + 1)) x)) f) ∙ omega arith
 
-      pub walk_ends : 1 ≤ size → first + n * size ≤ at → at ≡ first + legal_run image size k n first * size
-      walk_ends l h =
-          either (lt_or_le 0 w.left)
-          (λ (q : 0 < w.left). absurd (omega (arith, w.reach, one_turn w.left size q)))
-          (λ (q : w.left ≤ 0).
-          let z : w.left ≡ 0 = omega arith in
-          let f = w.same ∙ ap (λ (x : ℕ). n - x + legal_run image size k x at) z in
-          let r : legal_run image size k n first ≡ n = omega (arith, f, run_none at) in
-          omega (arith, w.reach, ap (λ (x : ℕ). x * size) z, ap (λ (x : ℕ). x * size) r))
+    pub run_stops : i < n → kind_of k (get_or image (first + i * size) 0) ≡ false → Some i ≡ below n (legal_run image size k n first)
+    unfolding below
+    run_stops h t =
+        let r : legal_run image size k n first ≡ i = omega (arith, w, run_by false (n - i) (first + i * size) (omega (arith, h)) t) in
+        rw (r, lt-ltb i n h)
 
-      module _ (h : at < first + n * size) where
-        some_left : 0 < w.left
-        some_left =
-            either (lt_or_le 0 w.left) (λ (q : 0 < w.left). q)
-            (λ (q : w.left ≤ 0).
-            let z : w.left ≡ 0 = omega arith in
-            absurd (omega (arith, w.reach, ap (λ (x : ℕ). x * size) z)))
-
-        pub walk_fits : at + size ≤ first + n * size
-        walk_fits = omega (arith, w.reach, one_turn w.left size some_left)
-
-        pub walk_on : not (kind_of k (get_or image at 0)) ≡ false → Walk image size k n first (at + size)
-        walk_on t =
-            let r = run_by true w.left at some_left (not-false (kind_of k (get_or image at 0)) t) in
-            record {
-              left = w.left - 1;
-              few = omega (arith, w.few);
-              reach = omega (arith, w.reach, one_turn w.left size some_left);
-              same = omega (arith, w.same, w.few, r, some_left);
-            }
-
-        pub walk_stops : not (kind_of k (get_or image at 0)) ≡ true → at ≡ first + legal_run image size k n first * size
-        walk_stops t =
-            let r = run_by false w.left at some_left (not-true (kind_of k (get_or image at 0)) t) in
-            let e : legal_run image size k n first ≡ n - w.left = omega (arith, w.same, r) in
-            passed ∙ ap (λ (x : ℕ). first + x * size) (sym e)
+    pub run_over : n ≤ i → i ≤ n → None ≡ below n (legal_run image size k n first)
+    unfolding below
+    run_over h l =
+        let e : n - i ≡ 0 = omega arith in
+        let r : legal_run image size k n first ≡ n = omega (arith, w ∙ ap (λ (x : ℕ). i + legal_run image size k x (first + i * size)) e, run_none (first + i * size)) in
+        rw (r, le-ltb n n (omega arith))
 
 -- sectors from `ordinal` on whose kinds stand at `at`, `at + size`, .. and are those of one k
 module _ (g : Geometry) (image : List ℕ) (size k : ℕ) where
@@ -111,7 +79,7 @@ module _ (g : Geometry) (image : List ℕ) (size k : ℕ) where
   unfolding kinds_from
   kinds_on left rest ordinal t = let e : suc left + rest ≡ suc (left + rest) = omega arith in rw e (simp t)
 
-  kinds_out : (left rest ordinal : ℕ) → legal_kind g image ordinal ≡ false → kinds_from g image (suc left + rest) ordinal ≡ Stopped (refuse 6 ordinal)
+  kinds_out : (left rest ordinal : ℕ) → legal_kind g image ordinal ≡ false → kinds_from g image (suc left + rest) ordinal ≡ Err (refuse 6 ordinal)
   unfolding kinds_from
   kinds_out left rest ordinal t = let e : suc left + rest ≡ suc (left + rest) = omega arith in rw e (simp t)
 
@@ -132,7 +100,7 @@ module _ (g : Geometry) (image : List ℕ) (size k : ℕ) where
 
   -- THE WALK IS THE DEFINITION'S: where it stops inside the run, there is the first sector at fault
   pub run_finds : (left rest at ordinal : ℕ) → Run left at ordinal → found left at < left
-      → kinds_from g image (left + rest) ordinal ≡ Stopped (refuse 6 (ordinal + found left at))
+      → kinds_from g image (left + rest) ordinal ≡ Err (refuse 6 (ordinal + found left at))
   run_finds zero rest at ordinal h l = absurd (omega (arith, found_none at))
   run_finds (suc left) rest at ordinal h l =
       by_test (kind_of k (get_or image at 0))
@@ -141,10 +109,10 @@ module _ (g : Geometry) (image : List ℕ) (size k : ℕ) where
       let e : ordinal + 1 + found left (at + size) ≡ ordinal + found (suc left) at = omega arith in
       kinds_on left rest ordinal (run_here left at ordinal h ∙ t)
       ∙ run_finds left rest (at + size) (ordinal + 1) (run_next left at ordinal h) (omega arith)
-      ∙ ap (λ (n : ℕ). Stopped (refuse 6 n)) e)
+      ∙ ap (λ (n : ℕ). Err (refuse 6 n)) e)
       (λ t.
       let e : ordinal ≡ ordinal + found (suc left) at = omega (arith, found_here left at t) in
-      kinds_out left rest ordinal (run_here left at ordinal h ∙ t) ∙ ap (λ (n : ℕ). Stopped (refuse 6 n)) e)
+      kinds_out left rest ordinal (run_here left at ordinal h ∙ t) ∙ ap (λ (n : ℕ). Err (refuse 6 n)) e)
 
   -- and where it does not, what is left is what stands behind the run
   pub run_passes : (left rest at ordinal : ℕ) → Run left at ordinal → left ≤ found left at
@@ -182,11 +150,11 @@ module _ (g : Geometry) (image : List ℕ) where
       (k_later g (index_sectors g + i) g.k (omega arith) refl)
       (offset_later g (index_sectors g + i) (index_sectors g * 129 + i * (g.P + 1)) (omega arith) (rw e))
 
-  pub kinds_first : (i : ℕ) → i ≡ legal_run image 129 0 (index_sectors g) 0 → i < index_sectors g → Stopped (refuse 6 i) ≡ refusal6 g image
+  pub kinds_first : (i : ℕ) → i ≡ legal_run image 129 0 (index_sectors g) 0 → i < index_sectors g → Err (refuse 6 i) ≡ refusal6 g image
   unfolding sector_count
   kinds_first i e l =
       let f : 0 + legal_run image 129 0 (index_sectors g) 0 ≡ i = omega arith in
-      sym (run_finds g image 129 0 (index_sectors g) later 0 0 run_first (omega arith) ∙ ap (λ (n : ℕ). Stopped (refuse 6 n)) f)
+      sym (run_finds g image 129 0 (index_sectors g) later 0 0 run_first (omega arith) ∙ ap (λ (n : ℕ). Err (refuse 6 n)) f)
 
   behind : (i : ℕ) → i ≡ legal_run image 129 0 (index_sectors g) 0 → index_sectors g ≤ i → refusal6 g image ≡ kinds_from g image (later + 0) (index_sectors g)
   unfolding sector_count
@@ -200,16 +168,33 @@ module _ (g : Geometry) (image : List ℕ) where
   found_behind = legal_run image (g.P + 1) g.k later (index_sectors g * 129)
 
   pub kinds_behind : (i j n : ℕ) → i ≡ legal_run image 129 0 (index_sectors g) 0 → index_sectors g ≤ i → j ≡ found_behind → j < later → n ≡ index_sectors g + j
-      → Stopped (refuse 6 n) ≡ refusal6 g image
+      → Err (refuse 6 n) ≡ refusal6 g image
   kinds_behind i j n e l f m q =
       let z : index_sectors g + found_behind ≡ n = omega arith in
       sym (behind i e l ∙ run_finds g image (g.P + 1) g.k later 0 (index_sectors g * 129) (index_sectors g) run_behind (omega arith)
-      ∙ ap (λ (x : ℕ). Stopped (refuse 6 x)) z)
+      ∙ ap (λ (x : ℕ). Err (refuse 6 x)) z)
 
-  pub kinds_none : (i j : ℕ) → i ≡ legal_run image 129 0 (index_sectors g) 0 → index_sectors g ≤ i → j ≡ found_behind → later ≤ j → Passed ≡ refusal6 g image
+  pub kinds_none : (i j : ℕ) → i ≡ legal_run image 129 0 (index_sectors g) 0 → index_sectors g ≤ i → j ≡ found_behind → later ≤ j → Ok tt ≡ refusal6 g image
   unfolding kinds_from
   kinds_none i j e l f m =
       sym (behind i e l ∙ run_passes g image (g.P + 1) g.k later 0 (index_sectors g * 129) (index_sectors g) run_behind (omega arith))
+
+-- what is below, and none
+pub below_some : (n x i : ℕ) → below n x ≡ Some i → (i ≡ x) × (x < n)
+unfolding below
+below_some n x i h = go (ltb x n) refl h
+  where
+    go : (t : Bool) → ltb x n ≡ t → cond t (Some x) None ≡ Some i → (i ≡ x) × (x < n)
+    go true e k = (cc, ltb-true x n e)
+    go false e k = never (cc)
+
+pub below_none : (n x : ℕ) → below n x ≡ None → n ≤ x
+unfolding below
+below_none n x h = go (ltb x n) refl h
+  where
+    go : (t : Bool) → ltb x n ≡ t → cond t (Some x) None ≡ None → n ≤ x
+    go true e k = never (cc)
+    go false e k = ltb-false x n e
 
 -- as the code has them: n sectors in the index cylinder, m behind it, of p + 1 bytes and with k; i and j are where the walks end
 module _ (g : Geometry) (image : List ℕ) (n : ℕ) (en : n ≡ index_sectors g) where
@@ -223,10 +208,13 @@ module _ (g : Geometry) (image : List ℕ) (n : ℕ) (en : n ≡ index_sectors g
   unfolding image_length
   first_fits h = omega (arith, h, en)
 
-  pub stops_first : (i : ℕ) → i ≡ 0 + found_first * 129 → i < n * 129 → Stopped (refuse 6 (i / 129)) ≡ refusal6 g image
-  stops_first i e l =
-      let q : i / 129 ≡ found_first = div-eq_of_eq-mul_left (omega arith) (omega arith) in
-      kinds_first g image (i / 129) (q ∙ first_is) (omega arith)
+  pub stops_first : (i : ℕ) → Some i ≡ below n found_first → Err (refuse 6 i) ≡ refusal6 g image
+  stops_first i e =
+      let f = below_some n found_first i (sym e) in
+      kinds_first g image i (f.0 ∙ first_is) (omega (arith, f))
+
+  pub passes_first : None ≡ below n found_first → index_sectors g ≤ found_first
+  passes_first e = omega (arith, below_none n found_first (sym e), en)
 
   module _ (m p k : ℕ) (em : m ≡ later g image) (ep : p ≡ g.P) (ek : k ≡ g.k) (whole : length image ≡ image_length g) where
     abbrev behind_them : ℕ
@@ -242,18 +230,10 @@ module _ (g : Geometry) (image : List ℕ) (n : ℕ) (en : n ≡ index_sectors g
     behind_is : behind_them ≡ found_behind g image
     behind_is = rw (en, em, ep, ek)
 
-    module _ (i j : ℕ) (ei : i ≡ 0 + found_first * 129) (li : n * 129 ≤ i) (ej : j ≡ n * 129 + behind_them * (p + 1)) where
-      pub stops_behind : j < length image → Stopped (refuse 6 (n + (j - n * 129) / (p + 1))) ≡ refusal6 g image
-      stops_behind l =
-          let q : (j - n * 129) / (p + 1) ≡ behind_them = div-eq_of_eq-mul_left (omega arith) (omega arith) in
-          kinds_behind g image found_first behind_them (n + (j - n * 129) / (p + 1)) first_is (omega arith) behind_is
-          (either (lt_or_le behind_them m) (λ (h : behind_them < m). omega arith)
-          (λ (h : m ≤ behind_them). absurd (omega (arith, mul-le-mul_right (p + 1) h, all))))
-          (omega (arith, q, en))
+    pub stops_behind : None ≡ below n found_first → (i : ℕ) → Some i ≡ below m behind_them → Err (refuse 6 (n + i)) ≡ refusal6 g image
+    stops_behind f i e =
+        let h = below_some m behind_them i (sym e) in
+        kinds_behind g image found_first i (n + i) first_is (passes_first f) (h.0 ∙ behind_is) (omega (arith, h, em)) (omega (arith, en))
 
-      pub stops_nowhere : length image ≤ j → Passed ≡ refusal6 g image
-      stops_nowhere l =
-          kinds_none g image found_first behind_them first_is (omega arith) behind_is
-          (either (lt_or_le behind_them m)
-          (λ (h : behind_them < m). absurd (omega (arith, mul-le-mul_right (p + 1) h, all)))
-          (λ (h : m ≤ behind_them). omega arith))
+    pub stops_nowhere : None ≡ below n found_first → None ≡ below m behind_them → Ok tt ≡ refusal6 g image
+    stops_nowhere f e = kinds_none g image found_first behind_them first_is (passes_first f) behind_is (omega (arith, below_none m behind_them (sym e), em))

@@ -9,37 +9,40 @@ ghost use Rattle.standard.specs.Addresses.{legal, ordinal, stepped};
 ghost use Rattle.standard.specs.Judgement.{refusal6};
 ghost use Rattle.layout.specs.Parts.{stands_at};
 ghost use Rattle.layout.specs.Room.{Room};
-ghost use Rattle.layout.specs.Runs.{kind_of, legal_run};
+ghost use Rattle.layout.specs.Runs.{kind_of, legal_run, below};
 
-use fields::{minus, times, times16, wide16};
-use standard::{Address, Checked, Geometry, Refusal, byte_at, wide};
+use fields::{minus, times};
+use standard::{Address, Geometry, Refusal, byte_at};
 
 // The sectors of the index cylinder; those of the cylinders behind it.
 fn index_sectors(g: Geometry) -> u64
     ensures { (result ≡ index_sectors g) × (result < 65536) }
 {
-    times(wide(g.S), wide(g.I))
+    times::<255>(u64::from(g.S), u64::from(g.I))
 }
 
 fn later_sectors(g: Geometry) -> u64
     ensures { (result ≡ (g.L + 3) * g.S * g.D) × (result < 33554432) }
 {
-    times(times(wide(g.L) + 3, wide(g.S)), wide(g.D))
+    times::<255>(
+        times::<255>(u64::from(g.L) + 3, u64::from(g.S)),
+        u64::from(g.D),
+    )
 }
 
 // "Length: S·I·129 + (L+3)·S·D·(P+1) bytes"
 pub fn image_length(g: Geometry) -> u64
     ensures { (result ≡ image_length g) × (result < 4398046511104) }
 {
-    index_sectors(g) * 129 + times16(later_sectors(g), wide16(g.P) + 1)
+    index_sectors(g) * 129 + times::<65536>(later_sectors(g), u64::from(g.P) + 1)
 }
 
 // "08 to I are label slots 1 to I-7. On two-sided volumes, side 1 sectors 01 to I continue the slots."
 pub fn slot_count(g: Geometry) -> u64
     ensures { (result ≡ slot_count g) × (result < 65536) }
 {
-    let sides = wide(g.S);
-    let n = wide(g.I);
+    let sides = u64::from(g.S);
+    let n = u64::from(g.I);
     let first = minus(n, 7);
     if sides == 2 {
         return first + n;
@@ -56,7 +59,7 @@ fn kind_offset(g: Geometry, n: u64) -> u64
     if n < first {
         return n * 129;
     }
-    first * 129 + times16(n - first, wide16(g.P) + 1)
+    first * 129 + times::<65536>(n - first, u64::from(g.P) + 1)
 }
 
 // The byte at an offset, and the 128 from one on, in the image itself.
@@ -64,7 +67,7 @@ fn byte_of(image: &[u8], at: u64) -> u64
     requires { at < length image.now }
     ensures { (result ≡ get_or image.now at 0) × (result < 256) }
 {
-    wide(image[at as usize])
+    u64::from(image[at as usize])
 }
 
 fn body_of(image: &[u8], at: u64) -> &[u8]
@@ -161,9 +164,9 @@ fn physical_of(g: Geometry, c: u64) -> u64
     ensures { (result ≡ physical g c) × (c ≤ result) × (result ≤ c + 2) }
 {
     // "q is c, or c+1 if d1 is present and d1 ≤ c;"
-    let q = skip_one(wide(g.d1), c);
+    let q = skip_one(u64::from(g.d1), c);
     // "the physical cylinder is q, or q+1 if d2 is present and d2 ≤ q."
-    skip_one(wide(g.d2), q)
+    skip_one(u64::from(g.d2), q)
 }
 
 // The ordinal of the sector that has a data address.
@@ -175,8 +178,8 @@ pub fn ordinal_of(g: Geometry, a: Address) -> u64
     let s = a.side;
     let n = a.sector;
     let q = physical_of(g, c);
-    let track = times(q - 1, wide(g.S)) + s;
-    index_sectors(g) + times(track, wide(g.D)) + (n - 1)
+    let track = times::<255>(q - 1, u64::from(g.S)) + s;
+    index_sectors(g) + times::<255>(track, u64::from(g.D)) + (n - 1)
 }
 
 // Where the kind of the record that has a data address stands.
@@ -192,7 +195,7 @@ fn has_mark(g: Geometry, image: &[u8], at: u64, mark: u64) -> bool
     requires { mark < 256 }
     ensures { result ≡ eqb (get_or image.now at 0) (mark + g.k) }
 {
-    let k = mark + wide(g.k);
+    let k = mark + u64::from(g.k);
     byte_at(image, at as usize) == k
 }
 
@@ -225,7 +228,7 @@ pub fn kind_behind(g: Geometry, a: Address, next: Address, end: u64) -> u64
     ensures { result ≡ kind_offset g (ordinal g next) }
 {
     let n = a.sector;
-    if n < wide(g.D) {
+    if n < u64::from(g.D) {
         return end;
     }
     kind_offset(g, ordinal_of(g, next))
@@ -236,7 +239,7 @@ pub fn kind_after(g: Geometry, a: Address, next: Address, at: u64) -> u64
     requires { (legal g a ≡ true) × (next ≡ stepped g a) × (at ≡ kind_offset g (ordinal g a)) }
     ensures { result ≡ kind_offset g (ordinal g next) }
 {
-    kind_behind(g, a, next, at + 1 + wide16(g.P))
+    kind_behind(g, a, next, at + 1 + u64::from(g.P))
 }
 
 // Refusal 6. Most sectors have the valid mark, so that is asked first.
@@ -244,46 +247,35 @@ fn is_kind(k: u64, c: u64) -> bool
     requires { k < 256 }
     ensures { result ≡ kind_of k c }
 {
-    if c == k {
-        return true;
-    }
-    if c == 16 + k {
-        return true;
-    }
-    c == 32 + k
+    c == k || c == 16 + k || c == 32 + k
 }
 
-// A walk over n sectors of one size, by offsets alone: where the first stands whose kind is none of the three, or where the last one ends.
-fn legal_run(image: &[u8], first: usize, size: usize, k: u64, n: u64) -> usize
+// The first of n sectors of one size whose kind is none of the three. The first of all stands at `first`.
+fn first_illegal(image: &[u8], first: usize, size: usize, k: u64, n: u64) -> Option<u64>
     requires { (1 ≤ size) × (k < 256) × (first + n * size ≤ length image.now) }
-    ensures { result ≡ first + legal_run image.now size k n first * size }
+    ensures { result ≡ below n (legal_run image.now size k n first) }
 {
-    let end = first + n as usize * size;
-    let mut at = first;
-    while at < end {
-        if !is_kind(k, wide(image[at])) {
-            return at;
+    for i in 0..n {
+        if !is_kind(k, u64::from(image[first + i as usize * size])) {
+            return Some(i);
         }
-        at += size;
     }
-    at
+    None
 }
 
 // "a sector's kind not one of its three", "ordinal from 0": the index cylinder with k = 0, then all others with the k of VOL1.
-pub fn kinds(g: Geometry, image: &[u8]) -> Checked
+pub fn kinds(g: Geometry, image: &[u8]) -> Result<(), Refusal>
     requires { length image.now ≡ image_length g }
     ensures { result ≡ refusal6 g image.now }
 {
     let n = index_sectors(g);
+    if let Some(i) = first_illegal(image, 0, 129, 0, n) {
+        return Err(Refusal::at(6, i));
+    }
     let start = (n * 129) as usize;
-    let i = legal_run(image, 0, 129, 0, n);
-    if i < start {
-        return Checked::Stopped(Refusal::at(6, (i / 129) as u64));
+    let size = usize::from(g.P) + 1;
+    if let Some(i) = first_illegal(image, start, size, u64::from(g.k), later_sectors(g)) {
+        return Err(Refusal::at(6, n + i));
     }
-    let size = (wide16(g.P) + 1) as usize;
-    let j = legal_run(image, start, size, wide(g.k), later_sectors(g));
-    if j < image.len() {
-        return Checked::Stopped(Refusal::at(6, n + ((j - start) / size) as u64));
-    }
-    Checked::Passed
+    Ok(())
 }

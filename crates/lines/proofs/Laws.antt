@@ -1,5 +1,6 @@
 -- The lines as their parts in a row.
 -- Assumes nothing.
+use Rattle.std.specs.Prelude.{Ok, Err}
 use Prim.Native.Nat.{ℕ, suc, ◌+◌, ◌-◌, ◌<◌, ◌≤◌}
 use mathlib.Core.Path.{◌≡◌}
 use mathlib.Core.Bool.{true, false}
@@ -18,7 +19,6 @@ use Rattle.standard.specs.Labels.{level, known_level, name_of, format_of, block_
 use Rattle.standard.specs.Files.{count_in}
 use Rattle.standard.specs.Listing.{newline, level_shown, format_shown, blocked_shown, count_shown, volume_line, known_line, other_line, label_line, lines_from, refused_line, listing}
 use Rattle.standard.specs.Judgement.{judged}
-use Rattle.standard.specs.declared.Judged.TheVariants.{Refused, Volume}
 use Rattle.promises.specs.Volumes.Judging.{accepted, not_given}
 use Rattle.standard.specs.declared.Geometry.{Geometry}
 use Rattle.standard.specs.declared.Refusal.{Refusal}
@@ -72,17 +72,17 @@ pub a_line : (g : Geometry) (image : List ℕ) (slot : ℕ) → is_label g image
 a_line g image slot h = rw h
 
 -- the lines of the slots from one on
-lines_go : (g : Geometry) (image : List ℕ) (n i k : ℕ) → n - i ≡ suc k → lines_from g image (n - i) (i + 1) ≡ line_in g image (i + 1) ++ lines_from g image k (i + 1 + 1)
+lines_go : (g : Geometry) (image : List ℕ) (slot left k : ℕ) → left ≡ suc k → lines_from g image left slot ≡ line_in g image slot ++ lines_from g image k (slot + 1)
 unfolding lines_from
-lines_go g image n i k e = rw e
+lines_go g image slot left k e = rw e
 
-pub lines_more : (g : Geometry) (image : List ℕ) (n i : ℕ) → i < n
-    → lines_from g image (n - i) (i + 1) ≡ line_in g image (i + 1) ++ lines_from g image (n - (i + 1)) (i + 1 + 1)
-lines_more g image n i h = lines_go g image n i (n - (i + 1)) (omega arith)
+pub lines_more : (g : Geometry) (image : List ℕ) (n slot : ℕ) → slot ≤ n
+    → lines_from g image (n + 1 - slot) slot ≡ line_in g image slot ++ lines_from g image (n + 1 - (slot + 1)) (slot + 1)
+lines_more g image n slot h = lines_go g image slot (n + 1 - slot) (n + 1 - (slot + 1)) (omega arith)
 
-pub lines_end : (g : Geometry) (image : List ℕ) (n i : ℕ) → n ≤ i → lines_from g image (n - i) (i + 1) ≡ []
+pub lines_end : (g : Geometry) (image : List ℕ) (n slot : ℕ) → n < slot → lines_from g image (n + 1 - slot) slot ≡ []
 unfolding lines_from
-lines_end g image n i h = let e : n - i ≡ 0 = omega arith in rw e
+lines_end g image n slot h = let e : n + 1 - slot ≡ 0 = omega arith in rw e
 
 -- the volume line
 seven : (a b l i d p s f e l' i' d' p' s' f' : List ℕ)
@@ -102,15 +102,15 @@ pub listing_long : (image : List ℕ) → 65536 < length image → bytes "TOO LO
 unfolding listing
 listing_long image h = simp (lt-ltb 65536 (length image) h)
 
-pub listing_refused : (image : List ℕ) (r : Refusal) → length image ≤ 65536 → judged image ≡ Refused r → refused_line r ≡ listing image
+pub listing_refused : (image : List ℕ) (r : Refusal) → length image ≤ 65536 → judged image ≡ Err r → refused_line r ≡ listing image
 unfolding listing
 listing_refused image r h j = simp (le-ltb 65536 (length image) h, j)
 
-pub listing_volume : (image : List ℕ) (g : Geometry) → length image ≤ 65536 → judged image ≡ Volume g
+pub listing_volume : (image : List ℕ) (g : Geometry) → length image ≤ 65536 → judged image ≡ Ok g
     → volume_line g image ++ lines_from g image (slot_count g) 1 ≡ listing image
 unfolding listing
 listing_volume image g h j = simp (le-ltb 65536 (length image) h, j)
 
 -- an accepted image has the seven sectors that end with VOL1
-pub long_enough : (image : List ℕ) (g : Geometry) → judged image ≡ Volume g → 903 ≤ length image
+pub long_enough : (image : List ℕ) (g : Geometry) → judged image ≡ Ok g → 903 ≤ length image
 long_enough image g j = ltb-false (length image) 903 (not_given (ltb (length image) 903) _ (accepted image g j).long)

@@ -1,14 +1,14 @@
 -- The parts that the lines of the listing are put together from.
 -- Assumes nothing.
-use Rattle.std.specs.Prelude.{ℕ, cond, List, [], ◌∷◌, ◌++◌}
+use Rattle.std.specs.Prelude.{ℕ, cond, List, [], ◌∷◌, ◌++◌, Result}
 use Rattle.standard.specs.Characters.{bytes, byte, shown}
 use Rattle.standard.specs.Addresses.{five_bytes}
 use Rattle.standard.specs.Labels.{name_of, block_length, record_length, unused_count, format_of, start_of, end_of}
 use Rattle.standard.specs.Layout.{label_at}
 use Rattle.standard.specs.Slots.{is_label}
 use Rattle.standard.specs.Listing.{newline, level_shown, format_shown, blocked_shown, count_shown, label_line}
+use Rattle.standard.specs.declared.Refusal.{Refusal}
 use Rattle.standard.specs.declared.Geometry.{Geometry}
-use Rattle.standard.specs.declared.Counted.{Counted}
 
 -- a bar and a field
 abbrev pub bar : List ℕ → List ℕ
@@ -27,11 +27,11 @@ first_fields slot h =
 unfoldable pub extent_fields : List ℕ → List ℕ
 extent_fields h = bar (five_bytes (start_of h)) ++ bar (five_bytes (end_of h))
 
-unfoldable pub last_fields : Counted → List ℕ → List ℕ
+unfoldable pub last_fields : Result ℕ Refusal → List ℕ → List ℕ
 last_fields count h = bar (count_shown count) ++ (bar (shown (unused_count h)) ++ newline)
 
 -- with block length and record length between them
-unfoldable pub fields_in_a_row : ℕ → List ℕ → Counted → List ℕ
+unfoldable pub fields_in_a_row : ℕ → List ℕ → Result ℕ Refusal → List ℕ
 fields_in_a_row slot h count =
     first_fields slot h ++ (bar (shown (block_length h)) ++ (bar (shown (record_length h)) ++ (extent_fields h ++ last_fields count h)))
 

@@ -2,93 +2,66 @@
 // layers above (inner).
 #![tactic(auto)]
 
-ghost use Rattle.std.specs.Prelude.{◌≡◌, ◌&&◌, ◌||◌, not, [], ◌∷◌, ◌+◌, ◌-◌, ◌*◌, ◌^◌, ◌<◌, ◌≤◌, length, get_or, take, drop, ltb, leb};
-ghost use Rattle.standard.specs.Characters.{bytes, between, one_of, same, field, in_a_set, spaces, is_hex, hex};
+ghost use Rattle.std.specs.Prelude.{◌≡◌, ◌&&◌, ◌||◌, not, ◌+◌, ◌-◌, ◌*◌, ◌^◌, ◌<◌, ◌≤◌, length, drop, ltb, leb};
+ghost use Rattle.standard.specs.Characters.{bytes, between, same, field, spaces, hex};
 ghost use Rattle.standard.specs.Rules.{lowest_fault};
 ghost use Rattle.standard.specs.Volume.{vol1_rules, hex_between, volume_k};
 ghost use Rattle.standard.specs.Defects.{is_cylinder, cylinder_in, ermap_rules, defect_in};
+ghost use Rattle.fields.specs.Numbers.{fault_in};
 ghost use Rattle.numbers.specs.Numbers.{bare, defected};
 
 use fields::{
-    Class, Perhaps, all_of, decimal_in, hex_1, hex_2, in_a_set, in_range, is, is_hex, minus,
-    number_2, one_of_1, one_of_4, same_as, spaces_or_number,
+    all_hex, all_in_a_set, all_spaces, decimal_in, hex_in, in_a_set, in_range, is, minus,
+    number_in, one_of, same_as, spaces_or_number,
 };
-use standard::{Geometry, digit, wide};
+use standard::{Geometry, digit};
 
-fn hex_at(f: &[u8], i: usize) -> bool
-    requires { i < length f.now }
-    ensures { result ≡ is_hex (get_or f.now i 0) }
-{
-    is_hex(wide(f[i]))
-}
-
-// A field of hex digits whose number is in a range: of two digits, of one.
+// A field of hex digits, two at most, whose number is in a range.
 fn hex_between(low: u64, high: u64, f: &[u8]) -> bool
-    requires { length f.now ≡ 2 }
+    requires { length f.now ≤ 2 }
     ensures { result ≡ hex_between low high f.now }
 {
-    hex_at(f, 0) & hex_at(f, 1) & in_range(low, high, hex_2(f))
-}
-
-fn hex_digit_between(low: u64, high: u64, f: &[u8]) -> bool
-    requires { length f.now ≡ 1 }
-    ensures { result ≡ hex_between low high f.now }
-{
-    hex_at(f, 0) & in_range(low, high, hex_1(f))
-}
-
-// The same of two digits of a label, which stand from a on and end before e.
-fn hex_in(v: &[u8], a: usize, e: usize, low: u64, high: u64) -> bool
-    requires { (length v.now ≡ 128) × (e ≤ 128) × (e ≡ a + 2) }
-    ensures { result ≡ hex_between low high (take (e - a) (drop a v.now)) }
-{
-    hex_between(low, high, &v[a..e])
+    all_hex(f) & in_range(low, high, hex_in(f))
 }
 
 // "81-82 hex L, 1-96; 83-84 hex I, 8-26; 85-86 hex D, 1-26; 89 hex S, 1-2."
-fn vol1_fault_from_81(v: &[u8]) -> u64
+#[tactic(auto, using(fields::proofs::RowLaws::rows), unfolding(standard::specs::Volume::vol1_rules))]
+fn vol1_fault_from_81(v: &[u8]) -> Option<u64>
     requires { length v.now ≡ 128 }
-    ensures { result ≡ lowest_fault (drop 8 (vol1_rules v.now)) }
+    ensures { result ≡ fault_in (lowest_fault (drop 8 (vol1_rules v.now))) }
 {
-    if !hex_in(v, 80, 82, 1, 96) {
-        return 81;
+    if !hex_between(1, 96, &v[80..82]) {
+        return Some(81);
     }
-    if !hex_in(v, 82, 84, 8, 26) {
-        return 83;
+    if !hex_between(8, 26, &v[82..84]) {
+        return Some(83);
     }
-    if !hex_in(v, 84, 86, 1, 26) {
-        return 85;
+    if !hex_between(1, 26, &v[84..86]) {
+        return Some(85);
     }
-    if !hex_digit_between(1, 2, &v[88..89]) {
-        return 89;
+    if !hex_between(1, 2, &v[88..89]) {
+        return Some(89);
     }
-    0
-}
-
-// The one character that may stand there.
-fn char_is(v: &[u8], i: usize, x: u64) -> bool
-    requires { i < length v.now }
-    ensures { result ≡ one_of (x ∷ []) (get_or v.now i 0) }
-{
-    one_of_1(wide(v[i]), x)
+    None
 }
 
 // "72 `A`; 76 space, 1, 2, 3 for P = 128, 256, 512, 1024; 77-78 spaces or 01-13"; 2026-02: "Position 80 must be `3`; 79 becomes reserved and is not judged."
-fn vol1_fault_from_72(v: &[u8]) -> u64
+#[tactic(auto, using(fields::proofs::RowLaws::rows), unfolding(standard::specs::Volume::vol1_rules))]
+fn vol1_fault_from_72(v: &[u8]) -> Option<u64>
     requires { length v.now ≡ 128 }
-    ensures { result ≡ lowest_fault (drop 4 (vol1_rules v.now)) }
+    ensures { result ≡ fault_in (lowest_fault (drop 4 (vol1_rules v.now))) }
 {
-    if !char_is(v, 71, 65) {
-        return 72;
+    if !one_of(u64::from(v[71]), b"A") {
+        return Some(72);
     }
-    if !one_of_4(wide(v[75]), 32, 49, 50, 51) {
-        return 76;
+    if !one_of(u64::from(v[75]), b" 123") {
+        return Some(76);
     }
     if !spaces_or_number(1, 13, &v[76..78]) {
-        return 77;
+        return Some(77);
     }
-    if !char_is(v, 79, 51) {
-        return 80;
+    if !one_of(u64::from(v[79]), b"3") {
+        return Some(80);
     }
     vol1_fault_from_81(v)
 }
@@ -101,30 +74,23 @@ fn is_vol1(v: &[u8]) -> bool
     same_as(&v[0..4], b"VOL1")
 }
 
-// A field in the a-set, which stands from a on and ends before e.
-fn a_set_in(v: &[u8], a: usize, e: usize) -> bool
-    requires { (length v.now ≡ 128) × (a ≤ e) × (e ≤ 128) }
-    ensures { result ≡ in_a_set (take (e - a) (drop a v.now)) }
-{
-    all_of(Class::Aset, &v[a..e])
-}
-
-// VOL1: the lowest position at fault, 0 for none. "1-4 `VOL1`; 5-10, 11, 38-51 in the a-set"
-pub fn vol1_fault(v: &[u8]) -> u64
+// VOL1: the lowest position at fault. "1-4 `VOL1`; 5-10, 11, 38-51 in the a-set"
+#[tactic(auto, using(fields::proofs::RowLaws::rows), unfolding(standard::specs::Volume::vol1_rules))]
+pub fn vol1_fault(v: &[u8]) -> Option<u64>
     requires { length v.now ≡ 128 }
-    ensures { result ≡ lowest_fault (vol1_rules v.now) }
+    ensures { result ≡ fault_in (lowest_fault (vol1_rules v.now)) }
 {
     if !is_vol1(v) {
-        return 1;
+        return Some(1);
     }
-    if !a_set_in(v, 4, 10) {
-        return 5;
+    if !all_in_a_set(&v[4..10]) {
+        return Some(5);
     }
-    if !in_a_set(wide(v[10])) {
-        return 11;
+    if !in_a_set(u64::from(v[10])) {
+        return Some(11);
     }
-    if !a_set_in(v, 37, 51) {
-        return 38;
+    if !all_in_a_set(&v[37..51]) {
+        return Some(38);
     }
     vol1_fault_from_72(v)
 }
@@ -134,25 +100,18 @@ fn kind_in(v: &[u8]) -> u64
     requires { length v.now ≡ 128 }
     ensures { result ≡ volume_k v.now }
 {
-    let c = wide(v[75]);
+    let c = u64::from(v[75]);
     if c == 32 {
         return 0;
     }
     digit(c)
 }
 
-fn narrow(n: u64) -> u8
-    requires { n < 256 }
-    ensures { result ≡ n }
-{
-    n as u8
-}
-
 fn hex_byte(f: &[u8]) -> u8
-    requires { (length f.now ≡ 2) × (hex f.now < 256) }
+    requires { (length f.now ≤ 2) × (hex f.now < 256) }
     ensures { result ≡ hex f.now }
 {
-    narrow(hex_2(f))
+    hex_in(f) as u8
 }
 
 // "for P = 128, 256, 512, 1024", which is 128·2^k
@@ -182,9 +141,9 @@ pub fn vol1_numbers(v: &[u8]) -> Geometry
         L: hex_byte(&v[80..82]),
         I: hex_byte(&v[82..84]),
         D: hex_byte(&v[84..86]),
-        k: narrow(k),
+        k: k as u8,
         P: record_size(k),
-        S: narrow(hex_1(&v[88..89])),
+        S: hex_byte(&v[88..89]),
         d1: 0,
         d2: 0,
     }
@@ -195,18 +154,14 @@ fn is_cylinder(f: &[u8]) -> bool
     requires { length f.now ≡ 3 }
     ensures { result ≡ is_cylinder f.now }
 {
-    let read = decimal_in(f);
-    let Perhaps::Number(_) = read else {
-        return false;
-    };
-    is(wide(f[2]), 48)
+    decimal_in(f).is_some() & is(u64::from(f[2]), 48)
 }
 
 fn cylinder_in(f: &[u8]) -> u64
     requires { length f.now ≡ 3 }
     ensures { (result ≡ cylinder_in f.now) × (result < 3000) }
 {
-    number_2(&f[0..2])
+    number_in(&f[0..2])
 }
 
 // "7-9 spaces, or a cylinder d1 in 01..L and `0`"
@@ -214,7 +169,7 @@ fn first_right(l: u64, f: &[u8]) -> bool
     requires { length f.now ≡ 3 }
     ensures { result ≡ (spaces f.now || (is_cylinder f.now && between 1 l (cylinder_in f.now))) }
 {
-    all_of(Class::Space, f) | (is_cylinder(f) & in_range(1, l, cylinder_in(f)))
+    all_spaces(f) | (is_cylinder(f) & in_range(1, l, cylinder_in(f)))
 }
 
 // "11-13 spaces, or d2 and `0`, where d1 is present and d1 < d2 ≤ L+1": f holds d2, e holds d1. (d2 - 1 ≤ L says the last, and cannot wrap.)
@@ -225,7 +180,7 @@ fn second_right(l: u64, e: &[u8], f: &[u8]) -> bool
     let c = cylinder_in(e);
     let d = cylinder_in(f);
     let below = minus(d, 1);
-    all_of(Class::Space, f) | (is_cylinder(f) & !all_of(Class::Space, e) & (c < d) & (below <= l))
+    all_spaces(f) | (is_cylinder(f) & !all_spaces(e) & (c < d) & (below <= l))
 }
 
 // "1-5 `ERMAP`"
@@ -236,32 +191,33 @@ fn is_ermap(e: &[u8]) -> bool
     same_as(&e[0..5], b"ERMAP")
 }
 
-// ERMAP on a volume of l cylinders: the lowest position at fault, 0 for none.
-pub fn ermap_fault(l: u64, e: &[u8]) -> u64
+// ERMAP on a volume of l cylinders: the lowest position at fault.
+#[tactic(auto, using(fields::proofs::RowLaws::rows), unfolding(standard::specs::Defects::ermap_rules, standard::specs::Defects::ermap_rule7, standard::specs::Defects::ermap_rule11))]
+pub fn ermap_fault(l: u64, e: &[u8]) -> Option<u64>
     requires { length e.now ≡ 128 }
-    ensures { result ≡ lowest_fault (ermap_rules l e.now) }
+    ensures { result ≡ fault_in (lowest_fault (ermap_rules l e.now)) }
 {
     if !is_ermap(e) {
-        return 1;
+        return Some(1);
     }
     let d1 = &e[6..9];
     if !first_right(l, d1) {
-        return 7;
+        return Some(7);
     }
     if !second_right(l, d1, &e[10..13]) {
-        return 11;
+        return Some(11);
     }
-    0
+    None
 }
 
 fn defect_in(f: &[u8]) -> u8
     requires { (length f.now ≡ 3) × (defect_in f.now < 256) }
     ensures { result ≡ defect_in f.now }
 {
-    if all_of(Class::Space, f) {
+    if all_spaces(f) {
         return 0;
     }
-    narrow(cylinder_in(f))
+    cylinder_in(f) as u8
 }
 
 // The numbers with the defective cylinders of an ERMAP without a fault.

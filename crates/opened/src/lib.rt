@@ -1,31 +1,30 @@
 // "An opened file carries the lent image with it, so the read path asks it for record after record." The volume is judged and the file opened once; after
 // that a reading costs the record, not the volume. The work is in `carry` and `answer_on`, which take plain parameters. The functions over the struct are
 // thin: each makes it, takes it apart or passes it on.
-// `read_at` and `salvage_at` take any image, slot and place. What requires `Carries` is for callers in these crates who hold what `open`, `carry` or an answer
+// `ask_at` takes any image, slot and place. What requires `Carries` is for callers in these crates who hold what `open`, `carry` or an answer
 // gave them: numbers of another image could lead a reader out of this one.
 #![tactic(auto)]
 
 ghost use Rattle.std.specs.Prelude.{◌≡◌};
-ghost use Rattle.standard.specs.Records.{plain, salvage};
-ghost use Rattle.standard.specs.Reading.{read_answer, output_after};
 ghost use Rattle.walks.specs.Walks.{mode_of};
 ghost use Rattle.opened.specs.Carries.{Carries, Asks};
 
 use opening::{Stage, begin};
 use reading::read_on;
-use standard::{Answer, Place};
+use standard::{Answer, Place, Refusal};
+use walks::Mode;
 
-// What an opened file carries beside the image: what opening it said, with the seat of the block where the last reading began.
+// What an opened file carries beside the image: what opening it said, the refusal or the stage, with the seat of the block where the last reading began.
 #[derive(Clone, Copy)]
 pub struct Carried {
     pub slot: u64,
-    pub stage: Stage,
+    pub stage: Result<Stage, Refusal>,
 }
 
 // An answer, and what the file carries from then on.
 #[derive(Clone, Copy)]
 pub struct Told {
-    pub answer: Answer,
+    pub answer: Result<Answer, Refusal>,
     pub carried: Carried,
 }
 
@@ -34,32 +33,32 @@ pub fn carry(image: &[u8], slot: u64) -> Carried
     ensures { (Carries image.now result) × (result.slot ≡ slot) }
 {
     Carried {
-        slot: slot,
+        slot,
         stage: begin(image, slot),
     }
 }
 
 // A place of the file that is carried: neither the volume nor the file is judged again.
-fn answer_on(image: &[u8], carried: Carried, salvage: bool, place: Place, out: &mut [u8]) -> Told
+fn answer_on(image: &[u8], carried: Carried, mode: Mode, place: Place, out: &mut [u8]) -> Told
     requires { Carries image.now carried }
-    ensures { Asks image.now carried.slot (mode_of salvage) place out.old out.new result }
+    ensures { Asks image.now carried.slot (mode_of mode) place out.old out.new result }
 {
-    let slot = carried.slot;
-    let stage = carried.stage;
-    match stage {
-        Stage::Closed(r) => Told {
-            answer: Answer::Unanswered(r),
-            carried: carried,
+    match carried.stage {
+        Err(r) => Told {
+            answer: Err(r),
+            carried,
         },
-        Stage::Going(f, seat) => {
-            let heard = read_on(image, f, salvage, seat, place, out);
-            let answer = heard.answer;
-            let next = heard.seat;
+        Ok(stage) => {
+            let file = stage.file;
+            let heard = read_on(image, file, mode, stage.seat, place, out);
             Told {
-                answer: answer,
+                answer: heard.answer,
                 carried: Carried {
-                    slot: slot,
-                    stage: Stage::Going(f, next),
+                    slot: carried.slot,
+                    stage: Ok(Stage {
+                        file,
+                        seat: heard.seat,
+                    }),
                 },
             }
         }
@@ -83,28 +82,12 @@ pub fn open<'a>(image: &'a [u8], slot: u64) -> OpenedFile<'a>
     }
 }
 
-// Asks an opened file for a place, by salvage or by plain reading.
-fn ask<'a, 'b>(o: OpenedFile<'a>, salvage: bool, place: Place, out: &'b mut [u8]) -> Told
+// Asks an opened file for a place: "Reading a place gives the record and the place right behind it."; "Salvage answers record, gap, End or refusal."
+pub fn ask<'a, 'b>(o: OpenedFile<'a>, mode: Mode, place: Place, out: &'b mut [u8]) -> Told
     requires { Carries o.image.now o.carried }
-    ensures { Asks o.entry.image.now o.entry.carried.slot (mode_of salvage) place out.old out.new result }
+    ensures { Asks o.entry.image.now o.entry.carried.slot (mode_of mode) place out.old out.new result }
 {
-    answer_on(o.image, o.carried, salvage, place, out)
-}
-
-// "Reading a place gives the record and the place right behind it."
-pub fn read<'a, 'b>(o: OpenedFile<'a>, place: Place, out: &'b mut [u8]) -> Told
-    requires { Carries o.image.now o.carried }
-    ensures { Asks o.entry.image.now o.entry.carried.slot plain place out.old out.new result }
-{
-    ask(o, false, place, out)
-}
-
-// "Salvage answers record, gap, End or refusal."
-pub fn salvage<'a, 'b>(o: OpenedFile<'a>, place: Place, out: &'b mut [u8]) -> Told
-    requires { Carries o.image.now o.carried }
-    ensures { Asks o.entry.image.now o.entry.carried.slot salvage place out.old out.new result }
-{
-    ask(o, true, place, out)
+    answer_on(o.image, o.carried, mode, place, out)
 }
 
 // The opened file with what an answer left it to carry: from answer to answer the image stays lent.
@@ -118,47 +101,16 @@ pub fn going_on<'a>(o: OpenedFile<'a>, carried: Carried) -> OpenedFile<'a>
 }
 
 // The same with plain parameters, so that whoever calls it needs no walk: the file in a slot is opened, and asked for a place.
-fn ask_at(image: &[u8], slot: u64, salvage: bool, place: Place, out: &mut [u8]) -> Told
-    ensures { Asks image.now slot (mode_of salvage) place out.old out.new result }
+pub fn ask_at(image: &[u8], slot: u64, mode: Mode, place: Place, out: &mut [u8]) -> Told
+    ensures { Asks image.now slot (mode_of mode) place out.old out.new result }
 {
-    ask(open(image, slot), salvage, place, out)
+    ask(open(image, slot), mode, place, out)
 }
 
 // And from what is carried, for a loop that goes on from answer to answer: the opened file is put together again, and asked for a place.
-pub fn ask_next(image: &[u8], carried: Carried, salvage: bool, place: Place, out: &mut [u8]) -> Told
+pub fn ask_next(image: &[u8], carried: Carried, mode: Mode, place: Place, out: &mut [u8]) -> Told
     requires { Carries image.now carried }
-    ensures { Asks image.now carried.slot (mode_of salvage) place out.old out.new result }
+    ensures { Asks image.now carried.slot (mode_of mode) place out.old out.new result }
 {
-    ask(OpenedFile { image, carried }, salvage, place, out)
-}
-
-// "Reading a place gives the record and the place right behind it."
-pub fn read_at(image: &[u8], slot: u64, place: Place, out: &mut [u8]) -> Answer
-    ensures { (result ≡ read_answer plain image.now slot place out.old) × (out.new ≡ output_after plain image.now slot place out.old) }
-{
-    let told = ask_at(image, slot, false, place, out);
-    told.answer
-}
-
-// "Salvage answers record, gap, End or refusal."
-pub fn salvage_at(image: &[u8], slot: u64, place: Place, out: &mut [u8]) -> Answer
-    ensures { (result ≡ read_answer salvage image.now slot place out.old) × (out.new ≡ output_after salvage image.now slot place out.old) }
-{
-    let told = ask_at(image, slot, true, place, out);
-    told.answer
-}
-
-// The same from what is carried, with what is carried from then on.
-pub fn read_next(image: &[u8], carried: Carried, place: Place, out: &mut [u8]) -> Told
-    requires { Carries image.now carried }
-    ensures { Asks image.now carried.slot plain place out.old out.new result }
-{
-    ask_next(image, carried, false, place, out)
-}
-
-pub fn salvage_next(image: &[u8], carried: Carried, place: Place, out: &mut [u8]) -> Told
-    requires { Carries image.now carried }
-    ensures { Asks image.now carried.slot salvage place out.old out.new result }
-{
-    ask_next(image, carried, true, place, out)
+    ask(OpenedFile { image, carried }, mode, place, out)
 }

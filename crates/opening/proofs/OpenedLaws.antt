@@ -1,5 +1,6 @@
 -- What the numbers of an opened file are, and what they say of its blocks and places.
 -- Assumes nothing.
+use Rattle.std.specs.Prelude.{Result, Ok, Err, ⊤}
 use Prim.Native.Nat.{ℕ, zero, suc, ◌+◌, ◌-◌, ◌*◌, ◌^◌, ◌<◌, ◌≤◌}
 use mathlib.Core.Path.{◌≡◌, refl, sym, ap, subst, ◌∙◌}
 use mathlib.Core.Bool.{Bool, true, false, cond, ◌&&◌, ◌||◌}
@@ -21,10 +22,6 @@ use Rattle.standard.specs.declared.Geometry.{Geometry}
 use Rattle.standard.specs.declared.Address.{Address}
 use Rattle.standard.specs.declared.Place.{Place}
 use Rattle.standard.specs.declared.Refusal.{Refusal}
-use Rattle.standard.specs.declared.Checked.{Checked}
-use Rattle.standard.specs.declared.Checked.TheVariants.{Passed, Stopped}
-use Rattle.standard.specs.declared.Judged.{Judged}
-use Rattle.standard.specs.declared.Judged.TheVariants.{Refused, Volume}
 use Rattle.promises.specs.Ground.Basics.{either, lt_or_le, by_test, and_l, and_r, never}
 use Rattle.promises.specs.Ground.Lists.{Every, every_drop, take_short}
 use Rattle.promises.specs.Images.AddressLaws.{Legal, rank_lt}
@@ -40,17 +37,12 @@ use Rattle.labels.specs.Forms.{form_in, format_for, format_back}
 use Rattle.labels.specs.declared.Form.TheVariants.{Fixed}
 use Rattle.extents.specs.Cursors.{legal_at, good_from}
 use Rattle.extents.specs.Surveys.{surveyed}
-use Rattle.extents.specs.declared.Condition.{Condition}
-use Rattle.extents.specs.declared.Condition.TheVariants.{Wrong, Whole, Holed}
 use Rattle.extents.proofs.SurveyLaws.{says}
 use Rattle.files.proofs.Blocks.{extent_on}
 use Rattle.opening.specs.Opened.{is_whole, file_numbers, open_or, opening_in, label_in, file_of, Opened, size_at, inside_by, Seated, opening_on, opening_of, Staged}
 use Rattle.opening.specs.declared.FileNumbers.{FileNumbers}
 use Rattle.opening.specs.declared.Seat.{Seat}
-use Rattle.opening.specs.declared.Opening.{Opening}
-use Rattle.opening.specs.declared.Opening.TheVariants.{Shut, Open}
 use Rattle.opening.specs.declared.Stage.{Stage}
-use Rattle.opening.specs.declared.Stage.TheVariants.{Closed, Going}
 
 -- a number of at most k digits
 number_small : (n k : ℕ) (f : List ℕ) → digits f ≡ true → length f ≤ k → number_from n f < (n + 1) * 10 ^ k
@@ -75,10 +67,9 @@ record_small g h r b =
     let d : digits (field h 54 57) ≡ true = rw s at e in
     rw s (omega (arith, number_small 0 4 (field h 54 57) d (take_short 4 (drop 53 h)))))
 
-pub whole_only : (k : Condition) → is_whole k ≡ true → k ≡ Whole
-whole_only (Wrong o) e = never (cc)
-whole_only Whole e = refl
-whole_only Holed e = never (cc)
+pub whole_only : (k : Result Bool Refusal) → is_whole k ≡ true → k ≡ Ok true
+whole_only (Err r) e = never (cc)
+whole_only (Ok w) e = ap Ok e
 
 fixed_label : (g : Geometry) (h : List ℕ) → Rules g h → form_in (format_of h) ≡ Fixed → 1 ≤ record_length h
 fixed_label g h r e = go (shape h r.r40)
@@ -115,7 +106,7 @@ pub record Facts (image : List ℕ) (f : FileNumbers) : Type 0 where
   pub held : f.count * f.m ≤ length (good_records f.g image (label_in image f))
   pub sound : SoundFile f.g image (label_in image f)
 
-module _ (image : List ℕ) (g : Geometry) (slot : ℕ) (j : judged image ≡ Volume g) (ok : open_refusal g image slot ≡ Passed) where
+module _ (image : List ℕ) (g : Geometry) (slot : ℕ) (j : judged image ≡ Ok g) (ok : open_refusal g image slot ≡ Ok tt) where
   abbrev the_label : List ℕ
   the_label = label_at g image slot
 
@@ -254,62 +245,62 @@ inside_is image f o pl =
     mine ∙ same ∙ sym (placed_in f.g image h pl)
 
 -- WHAT AN OPENING GIVES
-abbrev numbers_in : Opening → FileNumbers → FileNumbers
-numbers_in (Shut r) f = f
-numbers_in (Open f) e = f
+abbrev numbers_in : Result FileNumbers Refusal → FileNumbers → FileNumbers
+numbers_in (Err r) f = f
+numbers_in (Ok f) e = f
 
-abbrev refusal_in : Opening → Refusal → Refusal
-refusal_in (Shut r) s = r
-refusal_in (Open f) s = s
+abbrev refusal_in : Result FileNumbers Refusal → Refusal → Refusal
+refusal_in (Err r) s = r
+refusal_in (Ok f) s = s
 
-numbers_opened : (image : List ℕ) (g : Geometry) (slot : ℕ) → judged image ≡ Volume g → open_refusal g image slot ≡ Passed → Opened image (file_numbers g image slot)
+numbers_opened : (image : List ℕ) (g : Geometry) (slot : ℕ) → judged image ≡ Ok g → open_refusal g image slot ≡ Ok tt → Opened image (file_numbers g image slot)
 unfolding file_numbers
 numbers_opened image g slot j ok = (j, ok, refl)
 
-pub open_is : (image : List ℕ) (g : Geometry) (slot : ℕ) (f : FileNumbers) → opening_in g image slot ≡ Open f
-    → (open_refusal g image slot ≡ Passed) × (f ≡ file_numbers g image slot)
+pub open_is : (image : List ℕ) (g : Geometry) (slot : ℕ) (f : FileNumbers) → opening_in g image slot ≡ Ok f
+    → (open_refusal g image slot ≡ Ok tt) × (f ≡ file_numbers g image slot)
 unfolding opening_in
 open_is image g slot f e = go (open_refusal g image slot) refl e
   where
-    go : (c : Checked) → open_refusal g image slot ≡ c → open_or c (file_numbers g image slot) ≡ Open f → (open_refusal g image slot ≡ Passed) × (f ≡ file_numbers g image slot)
-    go Passed k e = (k, ap (λ (x : Opening). numbers_in x f) (sym e))
-    go (Stopped r) k e = never (cc)
+    go : (c : Result ⊤ Refusal) → open_refusal g image slot ≡ c → open_or c (file_numbers g image slot) ≡ Ok f → (open_refusal g image slot ≡ Ok tt) × (f ≡ file_numbers g image slot)
+    go (Ok _) k e = (k, ap (λ (x : Result FileNumbers Refusal). numbers_in x f) (sym e))
+    go (Err r) k e = never (cc)
 
-pub opened_of : (image : List ℕ) (g : Geometry) (slot : ℕ) (f : FileNumbers) → judged image ≡ Volume g → opening_in g image slot ≡ Open f → Opened image f
+pub opened_of : (image : List ℕ) (g : Geometry) (slot : ℕ) (f : FileNumbers) → judged image ≡ Ok g → opening_in g image slot ≡ Ok f → Opened image f
 opened_of image g slot f j e =
     let o = open_is image g slot f e in
     subst (Opened image) (sym o.1) (numbers_opened image g slot j o.0)
 
-pub shut_of : (image : List ℕ) (g : Geometry) (slot : ℕ) (r : Refusal) → opening_in g image slot ≡ Shut r → open_refusal g image slot ≡ Stopped r
+pub shut_of : (image : List ℕ) (g : Geometry) (slot : ℕ) (r : Refusal) → opening_in g image slot ≡ Err r → open_refusal g image slot ≡ Err r
 unfolding opening_in
 shut_of image g slot r e = go (open_refusal g image slot) refl e
   where
-    go : (c : Checked) → open_refusal g image slot ≡ c → open_or c (file_numbers g image slot) ≡ Shut r → open_refusal g image slot ≡ Stopped r
-    go Passed k e = never (cc)
-    go (Stopped s) k e = k ∙ ap Stopped (ap (λ (x : Opening). refusal_in x r) e)
+    go : (c : Result ⊤ Refusal) → open_refusal g image slot ≡ c → open_or c (file_numbers g image slot) ≡ Err r → open_refusal g image slot ≡ Err r
+    go (Ok _) k e = never (cc)
+    go (Err s) k e = k ∙ ap Err (ap (λ (x : Result FileNumbers Refusal). refusal_in x r) e)
 
 -- WHAT JUDGING AND OPENING GIVE
 module _ (image : List ℕ) (slot : ℕ) where
-  pub staged_refused : (r x : Refusal) → judged image ≡ Refused x → r ≡ x → Staged image slot (Closed r)
+  pub staged_refused : (r x : Refusal) → judged image ≡ Err x → r ≡ x → Staged image slot (Err r)
   staged_refused r x j e = rw (j, e)
 
-  module _ (g : Geometry) (j : judged image ≡ Volume g) where
-    pub staged_shut : (r : Refusal) → opening_in g image slot ≡ Shut r → Staged image slot (Closed r)
+  module _ (g : Geometry) (j : judged image ≡ Ok g) where
+    pub staged_shut : (r : Refusal) → opening_in g image slot ≡ Err r → Staged image slot (Err r)
     staged_shut r e = rw j e
 
-    pub staged_open : (f : FileNumbers) (s : Seat) → opening_in g image slot ≡ Open f → Seated image f s.block s.at → Staged image slot (Going f s)
+    pub staged_open : (f : FileNumbers) (s : Seat) → opening_in g image slot ≡ Ok f → Seated image f s.block s.at → Staged image slot (Ok (record { file = f; seat = s }))
     staged_open f s e h = (rw j e, h)
 
   -- and what a stage says of them
-  pub staged_closed : (s : Stage) (r : Refusal) → Staged image slot s → s ≡ Closed r → opening_of image slot ≡ Shut r
+  pub staged_closed : (s : Result Stage Refusal) (r : Refusal) → Staged image slot s → s ≡ Err r → opening_of image slot ≡ Err r
   staged_closed s r h e = rw e at h
 
-  pub staged_going : (s : Stage) (f : FileNumbers) (t : Seat) → Staged image slot s → s ≡ Going f t → (opening_of image slot ≡ Open f) × (Seated image f t.block t.at)
+  pub staged_going : (s : Result Stage Refusal) (f : FileNumbers) (t : Seat) → Staged image slot s → s ≡ Ok (record { file = f; seat = t }) → (opening_of image slot ≡ Ok f) × (Seated image f t.block t.at)
   staged_going s f t h e = rw e at h
 
-  pub open_opened : (f : FileNumbers) → opening_of image slot ≡ Open f → Opened image f
+  pub open_opened : (f : FileNumbers) → opening_of image slot ≡ Ok f → Opened image f
   open_opened f e = on (judged image) refl e
     where
-      on : (j : Judged) → judged image ≡ j → opening_on j image slot ≡ Open f → Opened image f
-      on (Refused r) k e = never (cc)
-      on (Volume g) k e = opened_of image g slot f k e
+      on : (j : Result Geometry Refusal) → judged image ≡ j → opening_on j image slot ≡ Ok f → Opened image f
+      on (Err r) k e = never (cc)
+      on (Ok g) k e = opened_of image g slot f k e

@@ -11,15 +11,15 @@ ghost use Rattle.standard.specs.Files.{refusal17, refusal18};
 ghost use Rattle.standard.specs.Records.{aligned};
 ghost use Rattle.standard.specs.Judgement.{judged};
 ghost use Rattle.labels.specs.Forms.{format_for};
-ghost use Rattle.opening.specs.Opened.{is_whole, usable_in, file_numbers, open_or, opening_in, Opened, size_at, inside_by, Seated, Staged};
+ghost use Rattle.opening.specs.Opened.{usable_in, file_numbers, open_or, opening_in, Opened, size_at, inside_by, Seated, Staged};
 
-use extents::{Condition, Cursor, nth_good, skip_good, survey};
+use extents::{Cursor, nth_good, skip_good, survey};
 use files::{numbers_of, tally_by};
 use finding::known_file;
 use labels::{Form, form_of, is_blocked};
 use layout::label_at;
-use standard::{Checked, Counted, Geometry, Judged, Place, Refusal, wide};
-use volume::{judge, refusal_of};
+use standard::{Geometry, Place, Refusal};
+use volume::judge;
 
 // The numbers of an opened file: its volume's, its slot, a cursor on its extent's start, whether every record of the extent is good; "40 space or F (fixed),
 // V, S"; "63 space, or B for blocked"; m, "blocks take m good records in turn"; B, R and U by the document's letters; and the number of its blocks.
@@ -38,46 +38,25 @@ pub struct FileNumbers {
     pub count: u64,
 }
 
-// One of the refusals 13 to 18, or the file's numbers.
-#[derive(Clone, Copy)]
-pub enum Opening {
-    Shut(Refusal),
-    Open(FileNumbers),
-}
-
 // Refusals 13 to 16: what both reading and writing ask of a slot first.
-pub fn usable(g: Geometry, image: &[u8], slot: u64) -> Checked
-    requires { judged image.now ≡ Judged.Volume g }
+pub fn usable(g: Geometry, image: &[u8], slot: u64) -> Result<(), Refusal>
+    requires { judged image.now ≡ Ok g }
     ensures { result ≡ usable_in g image.now slot }
 {
-    let k = known_file(g, image, slot);
-    if let Checked::Stopped(r) = k {
-        return Checked::Stopped(r);
-    }
+    known_file(g, image, slot)?;
     let h = label_at(g, image, slot);
-    if !(wide(h[41]) == 32) {
-        return Checked::Stopped(Refusal::at(15, slot));
+    if u64::from(h[41]) != 32 {
+        return Err(Refusal::at(15, slot));
     }
-    if !(wide(h[44]) == 32) {
-        return Checked::Stopped(Refusal::at(16, slot));
+    if u64::from(h[44]) != 32 {
+        return Err(Refusal::at(16, slot));
     }
-    Checked::Passed
-}
-
-// Whether a walk found every record good.
-pub fn is_whole(found: Condition) -> bool
-    ensures { result ≡ is_whole found }
-{
-    match found {
-        Condition::Wrong(_) => false,
-        Condition::Whole => true,
-        Condition::Holed => false,
-    }
+    Ok(())
 }
 
 // Refusals 17 and 18, or the numbers, of a label `h` that passed 13 and 14. One walk over the extent tells both.
-fn concluded(g: Geometry, image: &[u8], slot: u64, h: &[u8]) -> Opening
-    requires { (judged image.now ≡ Judged.Volume g) × (has_label g image.now slot ≡ true) × (known_level (label_at g image.now slot) ≡ true) × (h.now ≡ label_at g image.now slot) × (length h.now ≡ 128) }
+fn concluded(g: Geometry, image: &[u8], slot: u64, h: &[u8]) -> Result<FileNumbers, Refusal>
+    requires { (judged image.now ≡ Ok g) × (has_label g image.now slot ≡ true) × (known_level (label_at g image.now slot) ≡ true) × (h.now ≡ label_at g image.now slot) × (length h.now ≡ 128) }
     ensures { result ≡ open_or (in_order (refusal17 g image.now (label_at g image.now slot) ∷ refusal18 g image.now (label_at g image.now slot) slot ∷ [])) (file_numbers g image.now slot) }
 {
     let n = numbers_of(g, h);
@@ -86,35 +65,29 @@ fn concluded(g: Geometry, image: &[u8], slot: u64, h: &[u8]) -> Opening
         at: start,
         left: n.size,
     };
-    let found = survey(g, image, first);
-    let counted = tally_by(g, image, n, slot, found);
-    match counted {
-        Counted::Uncounted(r) => Opening::Shut(r),
-        Counted::Count(count) => Opening::Open(FileNumbers {
-            g: g,
-            slot: slot,
-            first: first,
-            whole: is_whole(found),
-            form: form_of(h),
-            blocked: is_blocked(h),
-            m: n.m,
-            B: n.B,
-            R: n.R,
-            U: n.U,
-            count: count,
-        }),
-    }
+    let whole = survey(g, image, first)?;
+    let count = tally_by(g, image, n, slot, Ok(whole))?;
+    Ok(FileNumbers {
+        g,
+        slot,
+        first,
+        whole,
+        form: form_of(h),
+        blocked: is_blocked(h),
+        m: n.m,
+        B: n.B,
+        R: n.R,
+        U: n.U,
+        count,
+    })
 }
 
 // Refusals 13 to 18, or the numbers: "Reading: 13-19", of which a place that is asked decides 19.
-pub fn open_in(g: Geometry, image: &[u8], slot: u64) -> Opening
-    requires { judged image.now ≡ Judged.Volume g }
+pub fn open_in(g: Geometry, image: &[u8], slot: u64) -> Result<FileNumbers, Refusal>
+    requires { judged image.now ≡ Ok g }
     ensures { result ≡ opening_in g image.now slot }
 {
-    let u = usable(g, image, slot);
-    if let Checked::Stopped(r) = u {
-        return Opening::Shut(r);
-    }
+    usable(g, image, slot)?;
     let h = label_at(g, image, slot);
     concluded(g, image, slot, h)
 }
@@ -208,24 +181,21 @@ pub fn seat_at(image: &[u8], f: FileNumbers, s: Seat, b: u64) -> Seat
     }
 }
 
-// What opening a file said: one of the refusals 1 to 18; or its numbers, and the seat of one of its blocks, from which reading goes on.
+// An opened file's numbers, and the seat of one of its blocks, from which reading goes on.
 #[derive(Clone, Copy)]
-pub enum Stage {
-    Closed(Refusal),
-    Going(FileNumbers, Seat),
+pub struct Stage {
+    pub file: FileNumbers,
+    pub seat: Seat,
 }
 
-// Judges the volume and opens the file in a slot. "A file call stops at the first refusal of the volume."
-pub fn begin(image: &[u8], slot: u64) -> Stage
+// Judges the volume and opens the file in a slot: one of the refusals 1 to 18, or the stage. "A file call stops at the first refusal of the volume."
+pub fn begin(image: &[u8], slot: u64) -> Result<Stage, Refusal>
     ensures { Staged image.now slot result }
 {
-    let j = judge(image);
-    let Judged::Volume(g) = j else {
-        return Stage::Closed(refusal_of(j));
-    };
-    let o = open_in(g, image, slot);
-    match o {
-        Opening::Shut(r) => Stage::Closed(r),
-        Opening::Open(f) => Stage::Going(f, first_seat(image, f)),
-    }
+    let g = judge(image)?;
+    let file = open_in(g, image, slot)?;
+    Ok(Stage {
+        file,
+        seat: first_seat(image, file),
+    })
 }

@@ -6,7 +6,7 @@ ghost use Rattle.std.specs.Prelude.{◌≡◌, cond, ◌-◌, ◌*◌, ◌<◌, 
 ghost use Rattle.standard.specs.Packed.{packed_refusal, packed_judged, packed_found, packed_counted, packed_place, packed_answer, packed_written, packed_created};
 ghost use Rattle.packing.specs.Room.{FoundFits, PlaceFits, AnswerFits, CreatedFits};
 
-use standard::{Answer, Counted, Created, Found, Judged, Place, Refusal, Written};
+use standard::{Answer, Created, Found, Geometry, Place, Refusal};
 
 // What a bit of that number is worth: the parts of an answer begin at these bits.
 const BIT_4: u64 = 1 << 4;
@@ -48,7 +48,7 @@ fn at_bit(b: u8, bit: u64) -> u64
     requires { bit ≤ 2 ^ 56 }
     ensures { (result ≡ b * bit) × (result ≤ 255 * bit) }
 {
-    standard::wide(b) * bit
+    u64::from(b) * bit
 }
 
 // "A refusal has its first place in bits 24-55, its second in bits 4-23, its third in bits 0-3": and its number in the top byte.
@@ -62,13 +62,13 @@ fn pack_refusal(r: Refusal) -> u64
 }
 
 // "L bits 0-7, I 8-15, D 16-23, k 24-27, S 28-31, d1 32-39, d2 40-47 (0: absent)"
-pub fn pack_judged(j: Judged) -> u64
+pub fn pack_judged(j: Result<Geometry, Refusal>) -> u64
     ensures { result ≡ packed_judged j }
 {
     match j {
-        Judged::Refused(r) => pack_refusal(r),
-        Judged::Volume(g) => {
-            standard::wide(g.L)
+        Err(r) => pack_refusal(r),
+        Ok(g) => {
+            u64::from(g.L)
                 + at_bit(g.I, BIT_8)
                 + at_bit(g.D, BIT_16)
                 + at_bit(g.k, BIT_24)
@@ -80,23 +80,24 @@ pub fn pack_judged(j: Judged) -> u64
 }
 
 // "slot in bits 24-55, the label's byte offset in the image in bits 0-23"
-pub fn pack_found(f: Found) -> u64
+pub fn pack_found(f: Result<Found, Refusal>) -> u64
     requires { FoundFits f }
     ensures { result ≡ packed_found f }
 {
     match f {
-        Found::Unfound(r) => pack_refusal(r),
-        Found::At(slot, offset) => slot * BIT_24 + offset,
+        Err(r) => pack_refusal(r),
+        Ok(f) => f.slot * BIT_24 + f.offset,
     }
 }
 
-// "the number of blocks"; "the number of free physical records"
-pub fn pack_counted(c: Counted) -> u64
-    ensures { result ≡ packed_counted c }
+// "the number of blocks"; "the number of free physical records"; "the number of blocks written"
+pub fn pack_number(n: Result<u64, Refusal>) -> u64
+    ensures counted { result ≡ packed_counted n }
+    ensures written { result ≡ packed_written n }
 {
-    match c {
-        Counted::Uncounted(r) => pack_refusal(r),
-        Counted::Count(n) => n,
+    match n {
+        Err(r) => pack_refusal(r),
+        Ok(n) => n,
     }
 }
 
@@ -118,37 +119,30 @@ fn pack_place(pl: Place) -> u64
 }
 
 // "bits 32-55 the record's length (0 for gap and End)"; the code is 128 for a gap, 129 for End.
-pub fn pack_answer(a: Answer) -> u64
+pub fn pack_answer(a: Result<Answer, Refusal>) -> u64
     requires { AnswerFits a }
     ensures { result ≡ packed_answer a }
 {
     match a {
-        Answer::Unanswered(r) => pack_refusal(r),
-        Answer::Record(n, pl) => n * BIT_32 + pack_place(pl),
-        Answer::Gap(pl) => GAP + pack_place(pl),
-        Answer::End(pl) => END + pack_place(pl),
-    }
-}
-
-// "the number of blocks written"
-pub fn pack_written(w: Written) -> u64
-    ensures { result ≡ packed_written w }
-{
-    match w {
-        Written::Unwritten(r) => pack_refusal(r),
-        Written::Blocks(n) => n,
+        Err(r) => pack_refusal(r),
+        Ok(met) => match met {
+            Answer::Record(n, pl) => n * BIT_32 + pack_place(pl),
+            Answer::Gap(pl) => GAP + pack_place(pl),
+            Answer::End(pl) => END + pack_place(pl),
+        },
     }
 }
 
 // "slot in bits 24-55; the start as the number of its five digits [..] in bits 0-23"
-pub fn pack_created(c: Created) -> u64
+pub fn pack_created(c: Result<Created, Refusal>) -> u64
     requires { CreatedFits c }
     ensures { result ≡ packed_created c }
 {
     match c {
-        Created::Uncreated(r) => pack_refusal(r),
-        Created::Placed(slot, start) => {
-            slot * BIT_24 + (start.cylinder * 1000 + start.side * 100 + start.sector)
+        Err(r) => pack_refusal(r),
+        Ok(c) => {
+            let start = c.start;
+            c.slot * BIT_24 + (start.cylinder * 1000 + start.side * 100 + start.sector)
         }
     }
 }

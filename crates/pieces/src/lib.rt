@@ -10,19 +10,18 @@ ghost use Rattle.layout.specs.Room.{Sized};
 ghost use Rattle.blocks.specs.Streams.{stream};
 ghost use Rattle.pieces.specs.Looks.{head_of, seen_of, four_read, part_f, part_of};
 
-use blocks::{all_fill, first_five};
+use blocks::{Role, all_fill, first_five};
 use extents::Cursor;
-use fields::{Perhaps, in_range};
 use labels::Form;
 use standard::{Geometry, digit, is_digit};
 
-// What stands there: fill alone, or nothing; a rule is broken; a record or segment, by its `0`-`3` as a number (0 for a record of F or V, which is a whole) and
-// its size, control word counted.
+// What stands there: fill alone, or nothing; a rule is broken; a record or segment, by what it is to its record (a record of F or V is a whole) and its size,
+// control word counted.
 #[derive(Clone, Copy)]
 pub enum Seen {
     Blank,
     Broken,
-    Part(u64, u64),
+    Part(Role, u64),
 }
 
 // The bytes of a control word: "V: four digits", "S: `0`-`3`, four digits".
@@ -37,15 +36,15 @@ pub fn head(form: Form) -> u64
 }
 
 // "four digits", and their number
-fn four_digits(a: u64, b: u64, c: u64, d: u64) -> Perhaps
+fn four_digits(a: u64, b: u64, c: u64, d: u64) -> Option<u64>
     requires { (a < 256) × (b < 256) × (c < 256) × (d < 256) }
     ensures { result ≡ four_read a b c d }
 {
     let ok = is_digit(a) & is_digit(b) & is_digit(c) & is_digit(d);
     if !ok {
-        return Perhaps::Nothing;
+        return None;
     }
-    Perhaps::Number(digit(a) * 1000 + digit(b) * 100 + digit(c) * 10 + digit(d))
+    Some(digit(a) * 1000 + digit(b) * 100 + digit(c) * 10 + digit(d))
 }
 
 // "the rest must be fill"
@@ -72,14 +71,14 @@ fn look_f(n: u64, r: u64) -> Seen
     if n < r {
         return Seen::Broken;
     }
-    Seen::Part(0, r)
+    Seen::Part(Role::Whole, r)
 }
 
-// A record or segment by its digit and the number of its control word: "from" a least "to" a most, "inside the content" of n bytes.
-fn sized(low: u64, high: u64, n: u64, role: u64, size: Perhaps) -> Seen
+// A record or segment by its role and the number of its control word: "from" a least "to" a most, "inside the content" of n bytes.
+fn sized(low: u64, high: u64, n: u64, role: Role, size: Option<u64>) -> Seen
     ensures { result ≡ part_of low high n role size }
 {
-    let Perhaps::Number(z) = size else {
+    let Some(z) = size else {
         return Seen::Broken;
     };
     if z < low {
@@ -117,10 +116,21 @@ fn look_v(
         return fill_only(g, image, c, i, n);
     }
     let w = first_five(g, image, c, i);
-    if w.a == 0 {
+    if w[0] == 0 {
         return fill_only(g, image, c, i, n);
     }
-    sized(4, r, n, 0, four_digits(w.a, w.b, w.c, w.d))
+    sized(
+        4,
+        r,
+        n,
+        Role::Whole,
+        four_digits(
+            u64::from(w[0]),
+            u64::from(w[1]),
+            u64::from(w[2]),
+            u64::from(w[3]),
+        ),
+    )
 }
 
 // "S: `0`-`3`, four digits from 5, inside the content". Fill is as in V, with 5.
@@ -132,13 +142,24 @@ fn look_s(g: Geometry, image: &[u8], c: Cursor, i: u64, n: u64) -> Seen
         return fill_only(g, image, c, i, n);
     }
     let w = first_five(g, image, c, i);
-    if w.a == 0 {
+    if w[0] == 0 {
         return fill_only(g, image, c, i, n);
     }
-    if !in_range(48, 51, w.a) {
+    let Some(role) = Role::read(w[0]) else {
         return Seen::Broken;
-    }
-    sized(5, n, n, w.a - 48, four_digits(w.b, w.c, w.d, w.e))
+    };
+    sized(
+        5,
+        n,
+        n,
+        role,
+        four_digits(
+            u64::from(w[1]),
+            u64::from(w[2]),
+            u64::from(w[3]),
+            u64::from(w[4]),
+        ),
+    )
 }
 
 // What stands at offset o of a block: at byte i of the record under the cursor, from which its content goes on for n bytes.

@@ -3,7 +3,7 @@
 -- cite; the few that are not are said where they first stand. `A → B`: if A then B; `A × B`: both; `A ⊎ B`: one of them; `A → ⊥`: not A; `Passed`: no refusal of
 -- the list is given; `get_or x i 0`: the byte at i.
 -- Assumes nothing.
-use Rattle.std.specs.Prelude.{ℕ, ◌+◌, ◌-◌, ◌*◌, ◌≤◌, suc, ◌<◌, ◌≡◌, Bool, true, ◌⊎◌, length, get_or, take, drop}
+use Rattle.std.specs.Prelude.{ℕ, ◌+◌, ◌-◌, ◌*◌, ◌≤◌, suc, ◌<◌, ◌≡◌, Bool, true, ◌⊎◌, length, get_or, take, drop, Ok, Err}
 use Rattle.std.proofs.Common.{sym, ap, ◌∙◌}
 use mathlib.Core.List.{List, ◌∷◌, [], ◌++◌, map, Memᴰ}
 use Rattle.standard.specs.Refusals.{refuse}
@@ -11,7 +11,7 @@ use Rattle.standard.specs.Layout.{index_sectors, sector_count, body_size, body_o
 use Rattle.standard.specs.Addresses.{ordinal, five_bytes, address_count, legal, rank, stepped}
 use Rattle.standard.specs.Slots.{has_label, is_label}
 use Rattle.standard.specs.Judgement.{judged, volume_of, volume_list, refusal8to10, refusal11}
-use Rattle.standard.specs.Finding.{found, found_at, label_named, label_in_slot}
+use Rattle.standard.specs.Finding.{found, found_at, label_named, label_in_slot, label_found}
 use Rattle.standard.specs.Free.{free_count, free_records, in_extent}
 use Rattle.standard.specs.Files.{extent, block_count, count_list, counted, open_refusal, file_in, blocks_held}
 use Rattle.standard.specs.Records.{Mode, salvage, FileRecord, entering, in_file, File}
@@ -28,12 +28,7 @@ use Rattle.standard.specs.declared.Geometry.{Geometry}
 use Rattle.standard.specs.declared.Address.{Address}
 use Rattle.standard.specs.declared.Place.{Place}
 use Rattle.standard.specs.declared.Refusal.{Refusal}
-use Rattle.standard.specs.declared.Answer.TheVariants.{Unanswered, Gap, End, Record as RecordOf}
-use Rattle.standard.specs.declared.Checked.TheVariants.{Passed, Stopped}
-use Rattle.standard.specs.declared.Counted.TheVariants.{Uncounted, Count}
-use Rattle.standard.specs.declared.Found.TheVariants.{Unfound, At}
-use Rattle.standard.specs.declared.Judged.TheVariants.{Refused, Volume}
-use Rattle.standard.specs.declared.Written.TheVariants.{Unwritten, Blocks}
+use Rattle.standard.specs.declared.Answer.TheVariants.{Gap, End, Record as RecordOf}
 use Rattle.promises.specs.Refusals.Refusing.{Exactly, First, accepted_write, volume_first, volume_stops, count_first, write_first, refusal_lays_nothing, gap_lays_nothing, end_lays_nothing, refusal_writes_nothing}
 use Rattle.promises.specs.Volumes.VolumePromises.{RecordInRange, extent_in_range, no_record_shared}
 use Rattle.promises.specs.Images.Sectors.{AgreeOn, sector_of}
@@ -74,82 +69,82 @@ use Rattle.promises.proofs.Unseen.ChangesAlike.{written_alike, write_leaves_alik
 -- "Bad input gets the numbered refusal of document 01, exactly when its list says so". `First r list`: r is the first of the list that is given.
 -- `Exactly A B`: each follows from the other. The lists stand in Judgement, Files and Writing; which sector, position, slot or record each of their entries
 -- names as its place is proved in PlacesNamed, exactly too.
-pub volume_refused : (image : List ℕ) (r : Refusal) → Exactly (judged image ≡ Refused r) (First r (volume_list image (volume_of image)))
+pub volume_refused : (image : List ℕ) (r : Refusal) → Exactly (judged image ≡ Err r) (First r (volume_list image (volume_of image)))
 volume_refused = volume_first
 
-module _ (image : List ℕ) (g : Geometry) (accepted : judged image ≡ Volume g) where
-  pub count_refused : (slot : ℕ) (r : Refusal) → Exactly (counted image slot ≡ Uncounted r) (First r (count_list g image slot))
+module _ (image : List ℕ) (g : Geometry) (accepted : judged image ≡ Ok g) where
+  pub count_refused : (slot : ℕ) (r : Refusal) → Exactly (counted image slot ≡ Err r) (First r (count_list g image slot))
   count_refused = count_first image g accepted
 
   -- "Reading: 13-19, then 20-22 as blocks are met, 23 last": `read_list` is that list, in ReadingRefused
   pub reading_refused : (m : Mode) (slot : ℕ) (pl : Place) (out : List ℕ) (r : Refusal)
-      → Exactly (read_answer m image slot pl out ≡ Unanswered r) (First r (read_list m g image slot pl (length out)))
+      → Exactly (read_answer m image slot pl out ≡ Err r) (First r (read_list m g image slot pl (length out)))
   reading_refused = read_first image g accepted
 
   pub writing_refused : (slot : ℕ) (bodies lengths : List ℕ) (r : Refusal)
-      → Exactly (written image slot bodies lengths ≡ Unwritten r) (First r (write_list g image slot bodies lengths))
+      → Exactly (written image slot bodies lengths ≡ Err r) (First r (write_list g image slot bodies lengths))
   writing_refused = write_first image g accepted
 
 -- "A file call stops at the first refusal of the volume."
-pub file_call_refused : (image : List ℕ) (r : Refusal) → judged image ≡ Refused r
-    → ((name : List ℕ) → found image name ≡ Unfound r)
-    × ((slot : ℕ) → found_at image slot ≡ Unfound r)
-    × ((slot : ℕ) → counted image slot ≡ Uncounted r)
-    × (free_count image ≡ Uncounted r)
-    × ((m : Mode) (slot : ℕ) (pl : Place) (out : List ℕ) → read_answer m image slot pl out ≡ Unanswered r)
-    × ((slot : ℕ) (bodies lengths : List ℕ) → written image slot bodies lengths ≡ Unwritten r)
+pub file_call_refused : (image : List ℕ) (r : Refusal) → judged image ≡ Err r
+    → ((name : List ℕ) → found image name ≡ Err r)
+    × ((slot : ℕ) → found_at image slot ≡ Err r)
+    × ((slot : ℕ) → counted image slot ≡ Err r)
+    × (free_count image ≡ Err r)
+    × ((m : Mode) (slot : ℕ) (pl : Place) (out : List ℕ) → read_answer m image slot pl out ≡ Err r)
+    × ((slot : ℕ) (bodies lengths : List ℕ) → written image slot bodies lengths ≡ Err r)
 file_call_refused = volume_stops
 
 -- "and a refusal changes no byte of the image or of the output." (Only a write has the image to change.) "Bytes behind a record in the output stay too; gap
 -- and End change none."
 module _ (m : Mode) (image : List ℕ) (slot : ℕ) (pl : Place) (out : List ℕ) where
-  pub refused_reading_stays : (r : Refusal) → read_answer m image slot pl out ≡ Unanswered r → output_after m image slot pl out ≡ out
+  pub refused_reading_stays : (r : Refusal) → read_answer m image slot pl out ≡ Err r → output_after m image slot pl out ≡ out
   refused_reading_stays = refusal_lays_nothing m image slot pl out
 
-  pub gap_stays : (next : Place) → read_answer m image slot pl out ≡ Gap next → output_after m image slot pl out ≡ out
+  pub gap_stays : (next : Place) → read_answer m image slot pl out ≡ Ok (Gap next) → output_after m image slot pl out ≡ out
   gap_stays = gap_lays_nothing m image slot pl out
 
-  pub end_stays : (next : Place) → read_answer m image slot pl out ≡ End next → output_after m image slot pl out ≡ out
+  pub end_stays : (next : Place) → read_answer m image slot pl out ≡ Ok (End next) → output_after m image slot pl out ≡ out
   end_stays = end_lays_nothing m image slot pl out
 
-  pub record_stays : (k : ℕ) (next : Place) → read_answer m image slot pl out ≡ RecordOf k next
+  pub record_stays : (k : ℕ) (next : Place) → read_answer m image slot pl out ≡ Ok (RecordOf k next)
       → (k ≤ length out) × (drop k (output_after m image slot pl out) ≡ drop k out) × (length (output_after m image slot pl out) ≡ length out)
   record_stays = record_laid m image slot pl out
 
 pub refused_writing_stays : (image : List ℕ) (slot : ℕ) (bodies lengths : List ℕ) (r : Refusal)
-    → written image slot bodies lengths ≡ Unwritten r → image_after image slot bodies lengths ≡ image
+    → written image slot bodies lengths ≡ Err r → image_after image slot bodies lengths ≡ image
 refused_writing_stays = refusal_writes_nothing
 
 -- ======== DEMAND 2
 -- "extents in range, sharing no record". `List.Memᴰ a list`: a is in the list. `RecordInRange`: its address is one of the volume, its sector behind the
 -- index cylinder and on no defective one, its bytes inside the image.
-pub extents_in_range : (image : List ℕ) (g : Geometry) (slot : ℕ) (a : Address) → judged image ≡ Volume g → has_label g image slot ≡ true
+pub extents_in_range : (image : List ℕ) (g : Geometry) (slot : ℕ) (a : Address) → judged image ≡ Ok g → has_label g image slot ≡ true
     → Memᴰ a (extent g (label_at g image slot)) → RecordInRange image g a
 extents_in_range = extent_in_range
 
-pub sharing_no_record : (image : List ℕ) (g : Geometry) (slot other : ℕ) (a b : Address) → judged image ≡ Volume g
+pub sharing_no_record : (image : List ℕ) (g : Geometry) (slot other : ℕ) (a b : Address) → judged image ≡ Ok g
     → has_label g image slot ≡ true → has_label g image other ≡ true
     → Memᴰ a (extent g (label_at g image slot)) → Memᴰ b (extent g (label_at g image other))
     → ordinal g a ≡ ordinal g b → slot ≡ other
 sharing_no_record = no_record_shared
 
 -- and an extent has exactly the addresses from its start to its end, so that 11 refuses no volume whose extents share no record
-pub extent_is : (image : List ℕ) (g : Geometry) (slot : ℕ) (a : Address) → judged image ≡ Volume g → has_label g image slot ≡ true
+pub extent_is : (image : List ℕ) (g : Geometry) (slot : ℕ) (a : Address) → judged image ≡ Ok g → has_label g image slot ≡ true
     → Exactly (Memᴰ a (extent g (label_at g image slot))) ((legal g a ≡ true) × (in_extent g (label_at g image slot) (rank g a) ≡ true))
 extent_is image g slot a accepted h = extent_exactly g (label_at g image slot) a (label_in_range image g slot accepted h)
 
-pub refused_for_sharing : (g : Geometry) (image : List ℕ) (r : Refusal) → refusal8to10 g image ≡ Passed → refusal11 g image ≡ Stopped r
+pub refused_for_sharing : (g : Geometry) (image : List ℕ) (r : Refusal) → refusal8to10 g image ≡ Ok tt → refusal11 g image ≡ Err r
     → (slot lower : ℕ) × (r ≡ refuse 11 slot) × (lower < slot) × (has_label g image slot ≡ true) × (has_label g image lower ≡ true)
     × (a : Address) × Memᴰ a (extent g (label_at g image slot)) × Memᴰ a (extent g (label_at g image lower))
 refused_for_sharing = refused_shares
 
 -- "These are physical numbers, and data skip them (house)." `OnDefect g n`: sector n of the image is on a defective cylinder. No extent has one: so two
 -- accepted images that differ in such sectors alone (`SameOffDefects`) read alike, and a write changes no byte of them (`InSector g i n`: byte i is in sector n).
-module _ (image : List ℕ) (g : Geometry) (accepted : judged image ≡ Volume g) where
+module _ (image : List ℕ) (g : Geometry) (accepted : judged image ≡ Ok g) where
   pub extents_off_defects : (slot n : ℕ) → has_label g image slot ≡ true → sector_of g (extent g (label_at g image slot)) n ≡ true → OnDefect g n → ⊥
   extents_off_defects = extents_apart image g accepted
 
-  pub reading_past_defects : (image' : List ℕ) (g' : Geometry) → judged image' ≡ Volume g' → SameOffDefects g image image' → (slot : ℕ)
+  pub reading_past_defects : (image' : List ℕ) (g' : Geometry) → judged image' ≡ Ok g' → SameOffDefects g image image' → (slot : ℕ)
       → ((m : Mode) (pl : Place) (out : List ℕ) → read_answer m image slot pl out ≡ read_answer m image' slot pl out)
       × ((m : Mode) (pl : Place) (out : List ℕ) → output_after m image slot pl out ≡ output_after m image' slot pl out)
       × (counted image slot ≡ counted image' slot)
@@ -157,37 +152,37 @@ module _ (image : List ℕ) (g : Geometry) (accepted : judged image ≡ Volume g
       let l = same_answers image image' g g' slot accepted j' (same_off_defects image g accepted image' slot same) in
       (l.1, l.2, l.3)
 
-  pub writing_past_defects : (slot : ℕ) (bodies lengths : List ℕ) (k i n : ℕ) → written image slot bodies lengths ≡ Blocks k
+  pub writing_past_defects : (slot : ℕ) (bodies lengths : List ℕ) (k i n : ℕ) → written image slot bodies lengths ≡ Ok k
       → InSector g i n → OnDefect g n → get_or (image_after image slot bodies lengths) i 0 ≡ get_or image i 0
   writing_past_defects slot bodies lengths k i n done = write_apart image g accepted slot bodies lengths (accepted_write image g accepted slot bodies lengths k done) i n
 
 -- what is found and handed out: "Names are 17 bytes, found among levels space, 1, 2 only"; "A file's label is handed out as the 128 bytes in the image itself"
-module _ (image : List ℕ) (g : Geometry) (accepted : judged image ≡ Volume g) where
+module _ (image : List ℕ) (g : Geometry) (accepted : judged image ≡ Ok g) where
   pub finding_gives : (name : List ℕ) (slot offset : ℕ)
-      → Exactly (found image name ≡ At slot offset)
+      → Exactly (found image name ≡ label_found slot offset)
       ((1 ≤ slot) × (slot ≤ slot_count g) × (is_label g image slot ≡ true) × (known_level (label_at g image slot) ≡ true)
       × (name_of (label_at g image slot) ≡ name) × (offset ≡ label_offset g slot))
   finding_gives = find_named image g accepted
 
   pub finding_none : (name : List ℕ) (r : Refusal)
-      → Exactly (found image name ≡ Unfound r)
+      → Exactly (found image name ≡ Err r)
       ((r ≡ refuse 13 0)
       × ((slot : ℕ) → 1 ≤ slot → slot ≤ slot_count g → is_label g image slot ≡ true → known_level (label_at g image slot) ≡ true
       → name_of (label_at g image slot) ≡ name → ⊥))
   finding_none = find_none image g accepted
 
-  pub label_given : (name : List ℕ) (slot offset : ℕ) → found image name ≡ At slot offset
+  pub label_given : (name : List ℕ) (slot offset : ℕ) → found image name ≡ label_found slot offset
       → (label_named image name ≡ take 128 (drop offset image)) × (length (label_named image name) ≡ 128)
   label_given = label_handed_out image g accepted
 
   -- the free records: all data addresses less the sizes of the labels' extents (`extentsBelow g image n`: of the labels in the slots 1 to n, in all)
-  pub free_gives : (free_count image ≡ Count (free_records g image)) × (free_records g image + extents_below g image (slot_count g) ≡ address_count g)
+  pub free_gives : (free_count image ≡ Ok (free_records g image)) × (free_records g image + extents_below g image (slot_count g) ≡ address_count g)
   free_gives = (free_counted image g accepted, free_is image g accepted)
 
 -- "reading gives exactly the records the standard puts there". `listed` is the declared list, straight from the blocks, and `listed_from` the same from a
 -- place on; `following n`: what a caller hears who reads a place and then each place that is handed out, at most n times, stopping at End or a refusal;
 -- `heardIn room`: the list as it is heard with so much room in the output, which is the list itself up to a record that is too long, where 23 is heard.
-module _ (image : List ℕ) (g : Geometry) (slot : ℕ) (accepted : judged image ≡ Volume g) (opens : open_refusal g image slot ≡ Passed) where
+module _ (image : List ℕ) (g : Geometry) (slot : ℕ) (accepted : judged image ≡ Ok g) (opens : open_refusal g image slot ≡ Ok tt) where
   abbrev file : File
   file = file_in g image (label_at g image slot)
 
@@ -201,7 +196,7 @@ module _ (image : List ℕ) (g : Geometry) (slot : ℕ) (accepted : judged image
 
 -- "A place at the end of a block's content goes on in the next block": reading it is reading the place to which `next_block` moves it, and so it is wherever only
 -- fill is left in a block that is not lost (`Finished`, in GoingOn; `at_the_end` there: the end of the content is such a place)
-module _ (image : List ℕ) (g : Geometry) (accepted : judged image ≡ Volume g) (m : Mode) (slot : ℕ) (pl : Place) where
+module _ (image : List ℕ) (g : Geometry) (accepted : judged image ≡ Ok g) (m : Mode) (slot : ℕ) (pl : Place) where
   pub reading_goes_on : in_file (file_in g image (label_at g image slot)) pl ≡ true → Finished (file_in g image (label_at g image slot)) pl → (out : List ℕ)
       → (read_answer m image slot pl out ≡ read_answer m image slot (next_block (block_count g image (label_at g image slot)) pl) out)
       × (output_after m image slot pl out ≡ output_after m image slot (next_block (block_count g image (label_at g image slot)) pl) out)
@@ -211,42 +206,42 @@ module _ (image : List ℕ) (g : Geometry) (accepted : judged image ≡ Volume g
 
 -- every place handed out is in the file; a gap's is the start, marked, of the block behind the first lost one from the place on (`FirstLost file a b`: from block a
 -- on, b is lost and none before it); End's is (count, 0)
-module _ (image : List ℕ) (g : Geometry) (accepted : judged image ≡ Volume g) (m : Mode) (slot : ℕ) (pl : Place) (out : List ℕ) (next : Place) where
-  pub record_leads : (k : ℕ) → read_answer m image slot pl out ≡ RecordOf k next → in_file (file_in g image (label_at g image slot)) next ≡ true
+module _ (image : List ℕ) (g : Geometry) (accepted : judged image ≡ Ok g) (m : Mode) (slot : ℕ) (pl : Place) (out : List ℕ) (next : Place) where
+  pub record_leads : (k : ℕ) → read_answer m image slot pl out ≡ Ok (RecordOf k next) → in_file (file_in g image (label_at g image slot)) next ≡ true
   record_leads = record_next image g accepted m slot pl out next
 
-  pub gap_leads : read_answer m image slot pl out ≡ Gap next
+  pub gap_leads : read_answer m image slot pl out ≡ Ok (Gap next)
       → (in_file (file_in g image (label_at g image slot)) next ≡ true)
       × (b : ℕ) × FirstLost (file_in g image (label_at g image slot)) pl.block b × (next ≡ record { block = suc b; offset = 0; mark = true })
   gap_leads = gap_next image g accepted m slot pl out next
 
-  pub end_leads : read_answer m image slot pl out ≡ End next
+  pub end_leads : read_answer m image slot pl out ≡ Ok (End next)
       → (in_file (file_in g image (label_at g image slot)) next ≡ true) × (next ≡ end_place (block_count g image (label_at g image slot)))
   end_leads = end_next image g accepted m slot pl out next
 
 -- "an accepted write reads back as its list and changes no byte but the sectors it fills and two fields of the label." A write is accepted where it
 -- answers with a number of blocks. `parted bodies lengths`: the list, record by record. `MayChange`: the byte is in a sector of the blocks filled, or in
 -- positions 58-62 or 75-79 of the label.
-module _ (image : List ℕ) (g : Geometry) (slot : ℕ) (bodies lengths : List ℕ) (n : ℕ) (accepted : judged image ≡ Volume g)
-    (done : written image slot bodies lengths ≡ Blocks n) where
+module _ (image : List ℕ) (g : Geometry) (slot : ℕ) (bodies lengths : List ℕ) (n : ℕ) (accepted : judged image ≡ Ok g)
+    (done : written image slot bodies lengths ≡ Ok n) where
   abbrev after : List ℕ
   after = image_after image slot bodies lengths
 
   abbrev label : List ℕ
   label = label_at g image slot
 
-  passed : write_refusal g image slot bodies lengths ≡ Passed
+  passed : write_refusal g image slot bodies lengths ≡ Ok tt
   passed = accepted_write image g accepted slot bodies lengths n done
 
   -- the list is the bodies lent, each of its length (`joined`: one behind the other)
   pub write_list_lem : (map length (parted bodies lengths) ≡ lengths) × (joined (parted bodies lengths) ≡ bodies)
   write_list_lem = records_are image g slot bodies lengths accepted passed
 
-  pub write_counts : (n ≡ needed label bodies lengths) × (counted after slot ≡ Count n)
+  pub write_counts : (n ≡ needed label bodies lengths) × (counted after slot ≡ Ok n)
   write_counts =
       let e = answers image g slot bodies lengths accepted passed in
       let same : n ≡ needed label bodies lengths = cc in
-      (same, counts image g slot bodies lengths accepted passed ∙ ap Count (sym same))
+      (same, counts image g slot bodies lengths accepted passed ∙ ap Ok (sym same))
 
   -- `told body`: a record with these bytes is heard; `ended`: End is; `RoomFor room lengths`: none of the lengths is above the room
   pub write_reads_back : (m : Mode) (readings : ℕ) (out : List ℕ) → RoomFor (length out) lengths → length lengths + 1 ≤ readings
@@ -273,7 +268,7 @@ module _ (image : List ℕ) (g : Geometry) (slot : ℕ) (bodies lengths : List �
     (λ p. end_behind g image label (label_range image g slot bodies lengths accepted passed) (records_some image g slot bodies lengths accepted passed) n p),
   )
 
-  pub write_stays_accepted : judged after ≡ Volume g
+  pub write_stays_accepted : judged after ≡ Ok g
   write_stays_accepted = accepted_still image g slot bodies lengths accepted passed
 
   -- every other file is as before, and so is what is found, the number of free records, and whether a further write is refused
@@ -306,7 +301,7 @@ module _ (image : List ℕ) (g : Geometry) (slot : ℕ) (bodies lengths : List �
 -- those of defective records of this file's extent, of which docs/DECISIONS.md, 7.12, tells), "salvage gives, in order, every record no block of which is
 -- lost, one gap per lost block at its place, nothing more" (`Salvaged`: its list, its records, its gaps; `expected`: that list, block by block
 -- a gap, or the records that end there and have no lost block, and then End; both in Failing). What a caller hears is that list. `body_of`: a record's bytes.
-module _ (image image' : List ℕ) (g : Geometry) (slot : ℕ) (bodies : List (List ℕ)) (hit : ℕ → Bool) (accepted : judged image ≡ Volume g)
+module _ (image image' : List ℕ) (g : Geometry) (slot : ℕ) (bodies : List (List ℕ)) (hit : ℕ → Bool) (accepted : judged image ≡ Ok g)
     (readable : ReadsWhole image slot bodies) (fail : Failed g hit image image') (spares : Spares g hit image (label_at g image slot)) where
   pub salvage_gives : (rs : List FileRecord) × (map body_of rs ≡ bodies) × Salvaged g hit image image' slot rs
       × ((n : ℕ) (out : List ℕ) → following n salvage image' slot out start ≡ heard_in (length out) (take n (expected g hit image (label_at g image slot) rs)))
@@ -325,15 +320,15 @@ module _ (image image' : List ℕ) (g : Geometry) (slot : ℕ) (bodies : List (L
   never_joined = never_joined_any_promise image image' g slot bodies hit accepted readable fail spares
 
 -- The sectors of the file's own blocks are among those that may fail.
-pub blocks_may_fail : (image : List ℕ) (g : Geometry) (slot : ℕ) (hit : ℕ → Bool) → judged image ≡ Volume g → open_refusal g image slot ≡ Passed
+pub blocks_may_fail : (image : List ℕ) (g : Geometry) (slot : ℕ) (hit : ℕ → Bool) → judged image ≡ Ok g → open_refusal g image slot ≡ Ok tt
     → OfBlocks g hit image (label_at g image slot) → Spares g hit image (label_at g image slot)
 blocks_may_fail = only_blocks
 
 -- The same of any image and any place, readable or not: the bytes of a record given are those of one piece `0`, or of pieces `1`, `2`.., `3` one behind the
 -- other, with no lost block between, and these stand first ahead of the place (`Run`, in Runs); only where the mark counts may dropped pieces stand before them
 -- (`AfterDropped`). `entering`: where the mark counts the reader is `marked`, else `fresh`; `Stands` says of either what stands ahead.
-pub joined_rightly : (image : List ℕ) (g : Geometry) → judged image ≡ Volume g → (m : Mode) (slot : ℕ) (pl : Place) (out : List ℕ) (k : ℕ) (next : Place)
-    → read_answer m image slot pl out ≡ RecordOf k next
+pub joined_rightly : (image : List ℕ) (g : Geometry) → judged image ≡ Ok g → (m : Mode) (slot : ℕ) (pl : Place) (out : List ℕ) (k : ℕ) (next : Place)
+    → read_answer m image slot pl out ≡ Ok (RecordOf k next)
     → (r : FileRecord) × (take k (output_after m image slot pl out) ≡ r.body)
     × Stands (entering m (file_in g image (label_at g image slot)).params.format pl.offset pl.mark)
     (ahead (file_in g image (label_at g image slot)).params (file_in g image (label_at g image slot)).blocks pl.block pl.offset) r next
@@ -342,7 +337,7 @@ joined_rightly = record_stands
 -- ======== LOCALITY
 -- "Two accepted images equal in the index cylinder and in one file's extent give equal answers to every reading of that file." `AgreeOn g set`: the images have
 -- the same bytes in every sector of the set; `sectorOf g addresses`: the set of the sectors that have these addresses.
-pub locality : (image image' : List ℕ) (g g' : Geometry) (slot : ℕ) → judged image ≡ Volume g → judged image' ≡ Volume g'
+pub locality : (image image' : List ℕ) (g g' : Geometry) (slot : ℕ) → judged image ≡ Ok g → judged image' ≡ Ok g'
     → take (index_sectors g * 129) image ≡ take (index_sectors g * 129) image'
     → AgreeOn g (sector_of g (extent g (label_at g image slot))) image image'
     → ((m : Mode) (pl : Place) (out : List ℕ) → read_answer m image slot pl out ≡ read_answer m image' slot pl out)

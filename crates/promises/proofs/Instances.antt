@@ -1,7 +1,7 @@
 -- Four small images in which the theorems say something: what is promised of images is promised of these. Examples 9 and 10 of the document in an image; a file
 -- with a defective record, which shows what demand 3 does not promise; a volume with a write to it that is accepted; and one with two defective cylinders.
 -- Assumes nothing.
-use Rattle.std.specs.Prelude.{ℕ, zero, suc, ◌+◌, ◌-◌, ◌*◌, ◌<◌, ◌≡◌, refl, true, false, length, replicate}
+use Rattle.std.specs.Prelude.{ℕ, zero, suc, ◌+◌, ◌-◌, ◌*◌, ◌<◌, ◌≡◌, refl, true, false, length, replicate, Ok, Err}
 use Rattle.std.proofs.Common.{subst, ap, ◌∙◌, arith, eqb-true}
 use mathlib.Core.List.{List, [], ◌∷◌, ◌++◌, map, flatten}
 use Rattle.standard.specs.Characters.{one_of, same, every, a_set, is_digit, digit_value, number_from, is_hex, hex_value, hex_from, bytes, spaces_or_number, padded, shown_by}
@@ -23,14 +23,9 @@ use Rattle.standard.specs.Packing.{unused_in, lay_f, record_v, lay_one, lay_v, s
 use Rattle.standard.specs.Writing.{written, image_after, total, parted, wrong_length, lengths_from, packing, write_refusal, splice, filled_to, store_record, store_block, store_blocks, next_data_end, data_end_after, set_label, image_with, outcome}
 use Rattle.standard.specs.Finding.{is_named, found_from}
 use Rattle.standard.specs.Free.{in_extent, taken}
-use Rattle.standard.specs.Creating.{proposed, proposed_rules, proposal_fault, deleted_from, lowest_deleted, free_run, run_from, lowest_run, create_refusal, store_slot, image_created, creation, created, image_after_create, delete_refusal, deletion, deleted, image_after_delete}
+use Rattle.standard.specs.Creating.{proposed, proposed_rules, proposal_fault, deleted_from, lowest_deleted, free_run, run_from, lowest_run, create_refusal, store_slot, image_created, creation, created, image_after_create, delete_refusal, deletion, deleted, image_after_delete, file_made}
 use Rattle.standard.specs.Rules.{lowest_fault}
 use Rattle.standard.specs.declared.Geometry.{Geometry}
-use Rattle.standard.specs.declared.Judged.TheVariants.{Refused, Volume}
-use Rattle.standard.specs.declared.Checked.TheVariants.{Passed}
-use Rattle.standard.specs.declared.Written.TheVariants.{Blocks}
-use Rattle.standard.specs.declared.Counted.TheVariants.{Uncounted, Count}
-use Rattle.standard.specs.declared.Created.TheVariants.{Uncreated, Placed}
 use Rattle.promises.specs.Images.Sectors.{sector_of}
 use Rattle.promises.specs.Reading.ReadingLaws.{body_of, Reads}
 use Rattle.promises.specs.Reading.Following.{told, gap_at, done, following, refused}
@@ -101,7 +96,7 @@ bodies = bytes "AAAAAAAA" ∷ bytes "BBBBBBBBBBBB" ∷ bytes "CCC" ∷ []
 
 -- What is computed of the first. It is accepted; example 9 is read back; example 10, where block 1 is lost: its sector is the tenth, ordinal 9, in the image, and
 -- of block 1.
-pub computed : (judged image ≡ Volume geometry)
+pub computed : (judged image ≡ Ok geometry)
     × (following 4 plain image 1 output start ≡ map told bodies ++ (done ∷ []))
     × (following 4 salvage (failed_at geometry 9 image) 1 output start ≡ told (bytes "AAAAAAAA") ∷ gap_at 1 ∷ told (bytes "CCC") ∷ done ∷ [])
     × (following 4 plain (failed_at geometry 9 image) 1 output start ≡ told (bytes "AAAAAAAA") ∷ refused (refuse 20 1) ∷ [])
@@ -169,8 +164,8 @@ demo_bodies = bytes "PARTSLOG"
 abbrev pub demo_lengths : List ℕ
 demo_lengths = 5 ∷ 3 ∷ []
 
-pub demo_accepted : (length demo ≡ 1548) × (judged demo ≡ Volume demo_volume) × (write_refusal demo_volume demo 1 demo_bodies demo_lengths ≡ Passed)
-    × (written demo 1 demo_bodies demo_lengths ≡ Blocks 1)
+pub demo_accepted : (length demo ≡ 1548) × (judged demo ≡ Ok demo_volume) × (write_refusal demo_volume demo 1 demo_bodies demo_lengths ≡ Ok tt)
+    × (written demo 1 demo_bodies demo_lengths ≡ Ok 1)
 unfolding one_of same every a_set is_digit digit_value number_from spaces_or_number is_hex hex_value hex_from padded shown_by given_when in_order or_else lowest_fault ordinal_at sector_count k_at body_size kind_offset body_offset image_length kind_at body_at first_byte valid_mark incorrect_mark check_failed index_kind index_body slot_count slot_ordinal label_offset label_at vol1_rules ermap_rules ermap_rule7 ermap_rule11 rule41 rule42 rule43 rule45 rule64 rule73 skip_one physical five_digits address_in five_read legal rank before stepped past_last is_address is_data_end ordinal known_level another_level format_of record_length unused_count rule44 rule6 rule29 rule35 rule40 rule23 rule63 rule46 spaces_or_date rule48 rule67 rule54 rule58 rule75 hdr1_rules label_fault is_label is_deleted is_unreadable slot_refusal slots_from has_label numbers_in legal_kind kinds_from clashes_below clashes_from overlap shares same_name namesake volume_refusal judged addresses_from extent_size extent is_defective good_among good_records records_to_block good_before data_end_at_start data_end_in_extent blocks_held block_count is_wrong wrong_among splits_block count_refusal counted open_refusal any_failed bytes_of block_of blocks_from file_in file_at flatten unused_in lay_f record_v lay_one lay_v segment spread lay_s pack file_of total parted wrong_length lengths_from packing write_refusal splice filled_to store_record store_block store_blocks next_data_end data_end_after set_label image_with outcome
 demo_accepted = (refl, refl, refl, refl)
 
@@ -189,7 +184,7 @@ demo_heard =
 abbrev pub demo_old : List ℕ
 demo_old = splice (6 * 129 + 79) (bytes "3 ") demo
 
-pub demo_version : (judged demo_old ≡ Refused (refuse 3 80)) × (judged (splice (6 * 129 + 79) (bytes "33") demo) ≡ Volume demo_volume)
+pub demo_version : (judged demo_old ≡ Err (refuse 3 80)) × (judged (splice (6 * 129 + 79) (bytes "33") demo) ≡ Ok demo_volume)
 unfolding one_of same every a_set is_digit digit_value number_from spaces_or_number is_hex hex_value hex_from padded given_when in_order or_else lowest_fault sector_count k_at body_size kind_offset body_offset image_length kind_at body_at first_byte valid_mark incorrect_mark check_failed index_kind index_body slot_count slot_ordinal label_offset label_at vol1_rules ermap_rules ermap_rule7 ermap_rule11 rule41 rule42 rule43 rule45 rule64 rule73 five_digits address_in address_of legal rank before past_last is_address is_data_end known_level another_level format_of record_length unused_count rule44 rule6 rule29 rule35 rule40 rule23 rule63 rule46 spaces_or_date rule48 rule67 rule54 rule58 rule75 hdr1_rules label_fault is_label is_deleted is_unreadable slot_refusal slots_from has_label numbers_in legal_kind kinds_from clashes_below clashes_from overlap shares same_name namesake volume_refusal judged splice
 demo_version = (refl, refl)
 
@@ -201,13 +196,13 @@ demo_fields = bytes "LOG              00128V20100B"
 abbrev pub demo_other : List ℕ
 demo_other = bytes "PARTS            00128V20100B"
 
-pub demo_made : (created demo demo_fields 1 ≡ Uncreated (refuse 12 1))
-    × (created demo demo_other 1 ≡ Uncreated (refuse 28 0))
-    × (deleted demo 2 ≡ Uncounted (refuse 13 0))
-    × (deleted demo 1 ≡ Count 1)
-    × (judged (image_after_delete demo 1) ≡ Volume demo_volume)
-    × (created (image_after_delete demo 1) demo_fields 2 ≡ Uncreated (refuse 29 0))
-    × (created (image_after_delete demo 1) demo_fields 1 ≡ Placed 1 (address_in (bytes "01001")))
+pub demo_made : (created demo demo_fields 1 ≡ Err (refuse 12 1))
+    × (created demo demo_other 1 ≡ Err (refuse 28 0))
+    × (deleted demo 2 ≡ Err (refuse 13 0))
+    × (deleted demo 1 ≡ Ok 1)
+    × (judged (image_after_delete demo 1) ≡ Ok demo_volume)
+    × (created (image_after_delete demo 1) demo_fields 2 ≡ Err (refuse 29 0))
+    × (created (image_after_delete demo 1) demo_fields 1 ≡ file_made 1 (address_in (bytes "01001")))
     × (image_after_create (image_after_delete demo 1) demo_fields 1 ≡ demo)
 unfolding one_of same every a_set is_digit digit_value number_from spaces_or_number is_hex hex_value hex_from padded given_when in_order or_else lowest_fault sector_count k_at body_size kind_offset body_offset image_length kind_at body_at first_byte valid_mark incorrect_mark check_failed index_kind index_body slot_count slot_ordinal label_offset label_at vol1_rules ermap_rules ermap_rule7 ermap_rule11 rule41 rule42 rule43 rule45 rule64 rule73 five_digits address_in address_of legal rank before past_last is_address is_data_end known_level another_level format_of record_length unused_count rule44 rule6 rule29 rule35 rule40 rule23 rule63 rule46 spaces_or_date rule48 rule67 rule54 rule58 rule75 hdr1_rules label_fault is_label is_deleted is_unreadable slot_refusal slots_from has_label numbers_in legal_kind kinds_from clashes_below clashes_from overlap shares same_name namesake volume_refusal judged extent_size is_named found_from in_extent taken splice proposed proposed_rules proposal_fault deleted_from lowest_deleted free_run run_from lowest_run create_refusal store_slot image_created creation delete_refusal deletion
 demo_made = (refl, refl, refl, refl, refl, refl, refl, refl)
@@ -231,7 +226,7 @@ abbrev pub skipping_volume : Geometry
 skipping_volume = record { L = 2; I = 8; D = 1; k = 0; P = 128; S = 1; d1 = 1; d2 = 2 }
 
 -- it is accepted, and its records are those of cylinders 3 and 4
-pub skipping_heard : (judged skipping ≡ Volume skipping_volume)
+pub skipping_heard : (judged skipping ≡ Ok skipping_volume)
     × (following 3 plain skipping 1 (replicate 2 255) start ≡ told (bytes "03") ∷ told (bytes "04") ∷ done ∷ [])
     × (following 3 salvage skipping 1 (replicate 2 255) start ≡ told (bytes "03") ∷ told (bytes "04") ∷ done ∷ [])
 unfolding one_of same every a_set is_digit digit_value number_from spaces_or_number is_hex hex_value hex_from given_when in_order or_else lowest_fault ordinal_at sector_count k_at body_size kind_offset body_offset image_length kind_at body_at first_byte valid_mark incorrect_mark check_failed index_kind index_body slot_count slot_ordinal label_offset label_at vol1_rules ermap_rules ermap_rule7 ermap_rule11 rule41 rule42 rule43 rule45 rule64 rule73 skip_one physical five_digits address_in five_read legal rank before stepped past_last is_address is_data_end ordinal known_level another_level format_of record_length unused_count rule44 rule6 rule29 rule35 rule40 rule23 rule63 rule46 spaces_or_date rule48 rule67 rule54 rule58 rule75 hdr1_rules label_fault is_label is_deleted is_unreadable slot_refusal slots_from has_label numbers_in legal_kind kinds_from clashes_below clashes_from overlap shares same_name namesake volume_refusal judged addresses_from extent_size extent is_defective good_among good_records records_to_block good_before data_end_at_start data_end_in_extent blocks_held block_count is_wrong wrong_among splits_block count_refusal counted open_refusal any_failed bytes_of block_of blocks_from file_in file_at first_met step in_file read_on enough read_all join listed number4 role_of look_f look_v look_s look walk pieces in_block in_blocks ahead reply_in reply laid_over following

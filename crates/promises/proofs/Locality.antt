@@ -1,7 +1,7 @@
 -- What every answer about a file hangs on: its label and the sectors of its extent. "Two accepted images equal in the index cylinder and in one file's
 -- extent give equal answers to every reading of that file."
 -- Assumes nothing.
-use Rattle.std.specs.Prelude.{◌<◌, ℕ, ◌≡◌, true, false, List}
+use Rattle.std.specs.Prelude.{◌<◌, ℕ, ◌≡◌, true, false, List, Ok, Err}
 use Rattle.std.proofs.Common.{sym, ap, ◌∙◌}
 use Rattle.standard.specs.Refusals.{refuse, in_order, given_when}
 use Rattle.standard.specs.Layout.{label_at}
@@ -13,8 +13,6 @@ use Rattle.standard.specs.Reading.{reply}
 use Rattle.standard.specs.Writing.{write_refusal}
 use Rattle.standard.specs.declared.Geometry.{Geometry}
 use Rattle.standard.specs.declared.Place.{Place}
-use Rattle.standard.specs.declared.Checked.TheVariants.{Stopped}
-use Rattle.standard.specs.declared.Judged.TheVariants.{Volume}
 use Rattle.promises.specs.Ground.Basics.{by_test}
 use Rattle.promises.specs.Ground.Lists.{Every}
 use Rattle.promises.specs.Images.Tiling.{lengths}
@@ -31,16 +29,16 @@ pub record SameFile (g : Geometry) (image image' : List ℕ) (slot : ℕ) : Type
   pub sectors : has_label g image slot ≡ true → Every (AlikeRecord g image image') (extent g (label_at g image slot))
 
 -- with no label in the slot, 13 is all
-open_13 : (g : Geometry) (image : List ℕ) (slot : ℕ) → has_label g image slot ≡ false → open_refusal g image slot ≡ Stopped (refuse 13 0)
+open_13 : (g : Geometry) (image : List ℕ) (slot : ℕ) → has_label g image slot ≡ false → open_refusal g image slot ≡ Err (refuse 13 0)
 unfolding open_refusal in_order given_when
 open_13 g image slot h = rw h
 
-count_13 : (g : Geometry) (image : List ℕ) (slot : ℕ) → has_label g image slot ≡ false → count_refusal g image slot ≡ Stopped (refuse 13 0)
+count_13 : (g : Geometry) (image : List ℕ) (slot : ℕ) → has_label g image slot ≡ false → count_refusal g image slot ≡ Err (refuse 13 0)
 unfolding count_refusal in_order given_when
 count_13 g image slot h = rw h
 
 pub write_13 : (g : Geometry) (image : List ℕ) (slot : ℕ) (bodies lengths : List ℕ) → has_label g image slot ≡ false
-    → write_refusal g image slot bodies lengths ≡ Stopped (refuse 13 0)
+    → write_refusal g image slot bodies lengths ≡ Err (refuse 13 0)
 unfolding write_refusal in_order given_when
 write_13 g image slot bodies lengths h = rw h
 
@@ -92,7 +90,7 @@ module _ (g : Geometry) (image image' : List ℕ) (slot : ℕ) (p : 0 < g.P) (sa
       (λ e. write_13 g image slot bodies lengths e ∙ sym (write_13 g image' slot bodies lengths (absent e)))
 
   -- of two accepted images: both modes, every place, every size of the output; and the count
-  module _ (j : judged image ≡ Volume g) (j' : judged image' ≡ Volume g) where
+  module _ (j : judged image ≡ Ok g) (j' : judged image' ≡ Ok g) where
     pub reply_same : (m : Mode) (pl : Place) (room : ℕ) → reply m image slot pl room ≡ reply m image' slot pl room
     unfolding reply
     reply_same m pl room =
@@ -122,9 +120,9 @@ same_for_file g image image' slot numbers same =
     }
 
 -- LOCALITY
-module _ (image image' : List ℕ) (g g' : Geometry) (slot : ℕ) (j : judged image ≡ Volume g) (j' : judged image' ≡ Volume g')
+module _ (image image' : List ℕ) (g g' : Geometry) (slot : ℕ) (j : judged image ≡ Ok g) (j' : judged image' ≡ Ok g')
     (same : SameForFile g image image' slot) where
-  judged_same : judged image' ≡ Volume g
+  judged_same : judged image' ≡ Ok g
   unfolding SameForFile
   judged_same = index_judged image image' g g' j j' same.0
 

@@ -1,11 +1,10 @@
 -- The promises at the image, each proved of the definitions. `Demands` gathers them under the sentences of the demands.
 -- Assumes nothing.
-use Rattle.std.specs.Prelude.{ℕ, ◌≡◌, List, length}
+use Rattle.std.specs.Prelude.{ℕ, ◌≡◌, List, length, Ok}
 use Rattle.std.proofs.Common.{ap}
 use Rattle.standard.specs.Judgement.{judged}
 use Rattle.standard.specs.Reading.{Reply, laid_over}
 use Rattle.standard.specs.declared.Geometry.{Geometry}
-use Rattle.standard.specs.declared.Judged.TheVariants.{Volume}
 use Rattle.promises.specs.Volumes.IndexReads.{index_bytes, index_found, index_found_at, index_label_named, index_label_in, index_free}
 use Rattle.promises.proofs.Locality.{SameForFile, locality, locality_count}
 use Rattle.promises.proofs.Salvage.FailedLaws.{failed_volume, elsewhere_same}
@@ -25,7 +24,7 @@ unfolding SalvagePromise SalvageAnyPromise
 salvage_promise image image' g slot bodies hit j w fail k =
     salvage_any_promise image image' g slot bodies hit j w fail (only_blocks image g slot hit j (opens_whole image g slot bodies j w) k)
 
-pub same_answers : (image image' : List ℕ) (g g' : Geometry) (slot : ℕ) → judged image ≡ Volume g → judged image' ≡ Volume g'
+pub same_answers : (image image' : List ℕ) (g g' : Geometry) (slot : ℕ) → judged image ≡ Ok g → judged image' ≡ Ok g'
     → SameForFile g image image' slot → SameAnswers image image' slot
 same_answers image image' g g' slot j j' same = (
   locality image image' g g' slot j j' same,

@@ -1,5 +1,6 @@
 -- Measuring: what a reader meets depends, but for the body, on the length of what it has so far, not on the bytes.
 -- Assumes nothing.
+use Rattle.std.specs.Prelude.{Result, Ok, Err}
 use Prim.Native.Nat.{ℕ, ◌+◌, ◌≤◌}
 use mathlib.Core.Path.{◌≡◌, refl, sym, ap, ◌∙◌}
 use mathlib.Core.Bool.{Bool, true, false, cond}
@@ -14,7 +15,8 @@ use Rattle.walks.specs.Stands.{length_of, state_with, measured}
 use Rattle.walks.specs.declared.Stand.{Stand}
 use Rattle.walks.specs.declared.Stand.TheVariants.{Fresh, Marked, Within}
 use Rattle.walks.specs.declared.Measured.{Measured}
-use Rattle.walks.specs.declared.Measured.TheVariants.{Took, Lost, Ended, Failed}
+use Rattle.standard.specs.declared.Refusal.{Refusal}
+use Rattle.walks.specs.declared.Measured.TheVariants.{Took, Lost, Ended}
 
 longer : (a a' body : List ℕ) → length a ≡ length a' → length (a ++ body) ≡ length (a' ++ body)
 longer a a' body e = length-append a body ∙ (ap (λ (n : ℕ). n + length body) e ∙ sym (length-append a' body))
@@ -42,7 +44,7 @@ module _ (m : Mode) (p : Params) where
           → measured (after_move (cond t breach (deliver (a ++ body) f)) b o n (λ st. first_met m p ts st))
           ≡ measured (after_move (cond t breach (deliver (a' ++ body) f)) b o n (λ st. first_met m p ts st))
       go true h = refl
-      go false h = ap (λ (k : ℕ). Took k f (record { block = b; offset = n; mark = false })) h
+      go false h = ap (λ (k : ℕ). Ok (Took k f (record { block = b; offset = n; mark = false }))) h
 
   pub alike : (ts : List Token) (s : Stand) (a a' : List ℕ) → length a ≡ length a' → measured (first_met m p ts (state_with a s)) ≡ measured (first_met m p ts (state_with a' s))
   alike ts Fresh a a' e = refl
@@ -50,17 +52,17 @@ module _ (m : Mode) (p : Params) where
   alike ts (Within n f) a a' e = within_alike ts a a' f e
 
   -- A RECORD THAT COMES IS NO SHORTER THAN WHAT THERE WAS OF IT
-  abbrev Longer : List ℕ → Measured → Type 0
-  Longer a (Took n f pl) = length a ≤ n
-  Longer a (Lost pl) = Unit {0}
-  Longer a Ended = Unit {0}
-  Longer a (Failed r) = Unit {0}
+  abbrev Longer : List ℕ → Result Measured Refusal → Type 0
+  Longer a (Ok (Took n f pl)) = length a ≤ n
+  Longer a (Ok (Lost pl)) = Unit {0}
+  Longer a (Ok Ended) = Unit {0}
+  Longer a (Err r) = Unit {0}
 
-  longer_than : (a body : List ℕ) (x : Measured) → Longer (a ++ body) x → Longer a x
-  longer_than a body (Took n f pl) h = omega (arith, length-append a body)
-  longer_than a body (Lost pl) h = tt
-  longer_than a body Ended h = tt
-  longer_than a body (Failed r) h = tt
+  longer_than : (a body : List ℕ) (x : Result Measured Refusal) → Longer (a ++ body) x → Longer a x
+  longer_than a body (Ok (Took n f pl)) h = omega (arith, length-append a body)
+  longer_than a body (Ok (Lost pl)) h = tt
+  longer_than a body (Ok Ended) h = tt
+  longer_than a body (Err r) h = tt
 
   within_grows : (ts : List Token) (a : List ℕ) (f : ℕ) → Longer a (measured (first_met m p ts (within a f)))
   unfolding first_met
@@ -85,11 +87,11 @@ module _ (m : Mode) (p : Params) where
       go true = tt
       go false = omega (arith, length-append a body)
 
-  took_longer : (a : List ℕ) (x : Measured) (n f : ℕ) (pl : Place) → x ≡ Took n f pl → Longer a x → length a ≤ n
+  took_longer : (a : List ℕ) (x : Result Measured Refusal) (n f : ℕ) (pl : Place) → x ≡ Ok (Took n f pl) → Longer a x → length a ≤ n
   took_longer a x n f pl e h = rw e at h
 
   pub grows : (ts : List Token) (s : Stand) (a : List ℕ) (n f : ℕ) (pl : Place) → length a ≡ length_of s
-      → measured (first_met m p ts (state_with a s)) ≡ Took n f pl → length_of s ≤ n
+      → measured (first_met m p ts (state_with a s)) ≡ Ok (Took n f pl) → length_of s ≤ n
   grows ts Fresh a n f pl e h = omega arith
   grows ts Marked a n f pl e h = omega arith
   grows ts (Within k g) a n f pl e h = let q = took_longer a _ n f pl h (within_grows ts a g) in omega (arith, q, e)

@@ -1,5 +1,6 @@
 -- Measuring and delivering, turn by turn: what a walk meets is what was met from its start.
 -- Assumes nothing.
+use Rattle.std.specs.Prelude.{Result, Ok, Err}
 use Prim.Native.Nat.{ℕ, ◌+◌, ◌-◌, ◌<◌, ◌≤◌}
 use mathlib.Core.Path.{◌≡◌, refl, sym, ap, subst, ◌∙◌}
 use mathlib.Core.Bool.{Bool, true, false}
@@ -25,14 +26,17 @@ use Rattle.walks.specs.Stands.{length_of, state_with, met_with, measured, length
 use Rattle.walks.specs.Walks.{mode_of, met_from, Walking, Entered, NotLost, body_ahead, Reached, grown, to_go, ReachedBy, Turned}
 use Rattle.walks.specs.declared.Stand.{Stand}
 use Rattle.walks.specs.declared.Stand.TheVariants.{Fresh, Marked, Within}
+use Rattle.walks.specs.declared.Mode.{Mode}
+use Rattle.walks.specs.declared.Mode.TheVariants.{Plain, Salvage}
 use Rattle.walks.specs.declared.Measured.{Measured}
-use Rattle.walks.specs.declared.Measured.TheVariants.{Took, Lost, Ended, Failed}
+use Rattle.walks.specs.declared.Measured.TheVariants.{Took, Lost, Ended}
 use Rattle.walks.specs.declared.Walk.{Walk}
 use Rattle.walks.specs.declared.Turn.{Turn}
 use Rattle.walks.specs.declared.Turn.TheVariants.{Done, On}
 use Rattle.walks.proofs.TurnLaws.{turn_end}
 use Rattle.walks.proofs.WalkLaws.{stream_from, turned_lost}
 use Rattle.reading.specs.Answers.{Measures, Room, body_in}
+use Rattle.standard.specs.declared.Refusal.{Refusal}
 use Rattle.reading.proofs.AnswerLaws.{alike, grows}
 
 -- the bytes behind a control word, as the code comes to them
@@ -47,11 +51,11 @@ ahead_by image f w k h s p q r =
     r ∙ (sym (stream_from f.g image w.at k) ∙ ap (stream f.g image w.at) (q ∙ ap (λ (i : ℕ). w.place.offset + i) p))
 
 -- what is measured of a record with a body of its length
-pub measured_with : (x : Measured) (body : List ℕ) → ((n f : ℕ) (pl : Place) → x ≡ Took n f pl → length body ≡ n) → measured (met_with body x) ≡ x
-measured_with (Took n f pl) body h = ap (λ (k : ℕ). Took k f pl) (h n f pl refl)
-measured_with (Lost pl) body h = refl
-measured_with Ended body h = refl
-measured_with (Failed r) body h = refl
+pub measured_with : (x : Result Measured Refusal) (body : List ℕ) → ((n f : ℕ) (pl : Place) → x ≡ Ok (Took n f pl) → length body ≡ n) → measured (met_with body x) ≡ x
+measured_with (Ok (Took n f pl)) body h = ap (λ (k : ℕ). Ok (Took k f pl)) (h n f pl refl)
+measured_with (Ok (Lost pl)) body h = refl
+measured_with (Ok Ended) body h = refl
+measured_with (Err r) body h = refl
 
 pub end_measured : (s : Stand) (body : List ℕ) → measured (at_end (state_with body s)) ≡ ended_by s
 end_measured Fresh body = refl
@@ -63,7 +67,7 @@ no_room n fresh h = h
 no_room n marked h = h
 no_room n (within body f) h = h
 
-module _ (image : List ℕ) (f : FileNumbers) (s : Bool) where
+module _ (image : List ℕ) (f : FileNumbers) (s : Mode) where
   -- behind the last block
   pub met_end : Opened image f → (w : Walk) (body : List ℕ) → f.count ≤ w.place.block → met_from image f s w body ≡ at_end (state_with body w.stand)
   met_end o w body l =
@@ -98,17 +102,17 @@ module _ (image : List ℕ) (f : FileNumbers) (s : Bool) where
       met_alike v a (grown image f w (blanks w) (length_of v.stand)) (p ∙ sym (grown_long w (blanks w) (length_of v.stand) z r.1))
       ∙ (ap measured (sym (r.0 (blanks w) z)) ∙ same (blanks w) b z q)
 
-  took_long : (w : Walk) (body : List ℕ) (x : Measured) → length body ≡ length_of w.stand → ReachedBy image f w x → (n g : ℕ) (pl : Place) → x ≡ Took n g pl
+  took_long : (w : Walk) (body : List ℕ) (x : Result Measured Refusal) → length body ≡ length_of w.stand → ReachedBy image f w x → (n g : ℕ) (pl : Place) → x ≡ Ok (Took n g pl)
       → length (grown image f w body (length_in x)) ≡ n
   took_long w body x p r n g pl e =
       let h : Reached image f w n = rw e at r in
-      ap (λ (y : Measured). length (grown image f w body (length_in y))) e ∙ grown_long w body n p h
+      ap (λ (y : Result Measured Refusal). length (grown image f w body (length_in y))) e ∙ grown_long w body n p h
 
-  pub done_measured : (w : Walk) (x : Measured) (body : List ℕ) → length body ≡ length_of w.stand → ReachedBy image f w x
+  pub done_measured : (w : Walk) (x : Result Measured Refusal) (body : List ℕ) → length body ≡ length_of w.stand → ReachedBy image f w x
       → measured (met_with (grown image f w body (length_in x)) x) ≡ x
   done_measured w x body p r = measured_with x (grown image f w body (length_in x)) (took_long w body x p r)
 
-  pub measures_done : (w from : Walk) (x : Measured) (t : Turn) → Turned image f s w t → t ≡ Done x → Same w from → Measures image f s from x
+  pub measures_done : (w from : Walk) (x : Result Measured Refusal) (t : Turn) → Turned image f s w t → t ≡ Done x → Same w from → Measures image f s from x
   measures_done w from x t h e same b q =
       let r = subst (Turned image f s w) e h in
       let z = length-replicate {A = ℕ} (length_of w.stand) 0 in
@@ -123,7 +127,7 @@ module _ (image : List ℕ) (f : FileNumbers) (s : Bool) where
   pub turned_less : (w v : Walk) (t : Turn) → Turned image f s w t → t ≡ On v → (Walking image f v) × (to_go f v < to_go f w)
   turned_less w v t h e = let r = subst (Turned image f s w) e h in (r.2, r.3)
 
-  pub done_says : (w : Walk) (x : Measured) (t : Turn) → Turned image f s w t → t ≡ Done x → length_of w.stand ≡ 0
+  pub done_says : (w : Walk) (x : Result Measured Refusal) (t : Turn) → Turned image f s w t → t ≡ Done x → length_of w.stand ≡ 0
       → (met_from image f s w [] ≡ met_with (grown image f w [] (length_in x)) x) × (ReachedBy image f w x)
   done_says w x t h e z = let r = subst (Turned image f s w) e h in (r.0 [] (sym z), r.1)
 
@@ -136,7 +140,7 @@ module _ (image : List ℕ) (f : FileNumbers) (s : Bool) where
       r.0 [] (sym z) ∙ ap (λ (n : ℕ). met_from image f s v (take n (body_ahead image f w))) none
 
   -- one turn, and then what was measured further on
-  pub measures_on : (w v : Walk) (x : Measured) (t : Turn) → Turned image f s w t → t ≡ On v → Measures image f s v x → length_of w.stand ≡ 0
+  pub measures_on : (w v : Walk) (x : Result Measured Refusal) (t : Turn) → Turned image f s w t → t ≡ On v → Measures image f s v x → length_of w.stand ≡ 0
       → x ≡ measured (met_from image f s w [])
   measures_on w v x t h e m z =
       let r = subst (Turned image f s w) e h in
@@ -183,7 +187,7 @@ module _ (image : List ℕ) (f : FileNumbers) (s : Bool) where
         }
 
     -- there is room for what comes, because there is room for the whole record
-    room_long : (met : Met) (n : ℕ) → Room n met → (k : ℕ) × (g : ℕ) × (pl : Place) × (measured met ≡ Took k g pl) × (k ≤ n)
+    room_long : (met : Met) (n : ℕ) → Room n met → (k : ℕ) × (g : ℕ) × (pl : Place) × (measured met ≡ Ok (Took k g pl)) × (k ≤ n)
     room_long (took r pl) n h = (length r.body, r.first_block, pl, refl, h)
     room_long (gapped b pl) n h = absurd h
     room_long ended n h = absurd h
@@ -218,27 +222,27 @@ module _ (image : List ℕ) (f : FileNumbers) (s : Bool) where
           stays = ap (drop n) q ∙ more_behind w out n d r.1;
         }
 
-    done_cases : (w : Walk) (out : List ℕ) (x : Measured) → Delivering w out → ReachedBy image f w x
+    done_cases : (w : Walk) (out : List ℕ) (x : Result Measured Refusal) → Delivering w out → ReachedBy image f w x
         → Room (length before) (met_with (grown image f w (take (length_of w.stand) out) (length_in x)) x)
         → (Reached image f w (length_in x)) × (length_in x ≤ length out)
-    done_cases w out (Took n g pl) d r h = (r, omega (arith, grown_long w (take (length_of w.stand) out) n (front_long w out d) r, h, d.long))
-    done_cases w out (Lost pl) d r h = absurd h
-    done_cases w out Ended d r h = absurd h
-    done_cases w out (Failed q) d r h = absurd h
+    done_cases w out (Ok (Took n g pl)) d r h = (r, omega (arith, grown_long w (take (length_of w.stand) out) n (front_long w out d) r, h, d.long))
+    done_cases w out (Ok (Lost pl)) d r h = absurd h
+    done_cases w out (Ok Ended) d r h = absurd h
+    done_cases w out (Err q) d r h = absurd h
 
-    pub done_room : (w : Walk) (out : List ℕ) (x : Measured) (t : Turn) → Turned image f s w t → t ≡ Done x → Delivering w out
+    pub done_room : (w : Walk) (out : List ℕ) (x : Result Measured Refusal) (t : Turn) → Turned image f s w t → t ≡ Done x → Delivering w out
         → Room (length before) (met_from image f s from []) → (Reached image f w (length_in x)) × (length_in x ≤ length out)
     done_room w out x t h e d room =
         let r = subst (Turned image f s w) e h in
         done_cases w out x d r.1 (subst (Room (length before)) (sym d.same ∙ r.0 (take (length_of w.stand) out) (front_long w out d)) room)
 
-    body_with : (x : Measured) (body : List ℕ) (n : ℕ) → Room n (met_with body x) → body_in (met_with body x) ≡ body
-    body_with (Took k g pl) body n h = refl
-    body_with (Lost pl) body n h = absurd h
-    body_with Ended body n h = absurd h
-    body_with (Failed r) body n h = absurd h
+    body_with : (x : Result Measured Refusal) (body : List ℕ) (n : ℕ) → Room n (met_with body x) → body_in (met_with body x) ≡ body
+    body_with (Ok (Took k g pl)) body n h = refl
+    body_with (Ok (Lost pl)) body n h = absurd h
+    body_with (Ok Ended) body n h = absurd h
+    body_with (Err r) body n h = absurd h
 
-    pub delivered_done : (w : Walk) (out after : List ℕ) (x : Measured) (t : Turn) → Turned image f s w t → t ≡ Done x → Delivering w out
+    pub delivered_done : (w : Walk) (out after : List ℕ) (x : Result Measured Refusal) (t : Turn) → Turned image f s w t → t ≡ Done x → Delivering w out
         → Room (length before) (met_from image f s from []) → after ≡ paste out (length_of w.stand) (body_ahead image f w) (length_in x - length_of w.stand)
         → after ≡ laid_over (body_in (met_from image f s from [])) before
     unfolding laid_over
@@ -259,9 +263,9 @@ module _ (image : List ℕ) (f : FileNumbers) (s : Bool) where
         ∙ ap (λ (xs : List ℕ). xs ++ drop (length xs) before) (sym is))))
 
     -- a reader that is at a lost block meets no record
-    no_lost : (t : Bool) (b : ℕ) (n : ℕ) (body : List ℕ) → Room n (met_with body (lost_by t b)) → ⊥
-    no_lost true b n body h = h
-    no_lost false b n body h = h
+    no_lost : (t : Mode) (b : ℕ) (n : ℕ) (body : List ℕ) → Room n (met_with body (lost_by t b)) → ⊥
+    no_lost Salvage b n body h = h
+    no_lost Plain b n body h = h
 
     pub never_lost : (w : Walk) (out : List ℕ) → Entered image f w → Delivering w out → Room (length before) (met_from image f s from []) → NotLost image f w
     never_lost w out p d room = go (any_failed f.g image (take f.m (standing f.g image w.at))) refl

@@ -2,7 +2,7 @@
 // change no byte of it.
 #![tactic(auto)]
 
-ghost use Rattle.std.specs.Prelude.{◌≡◌, true, false, [], ◌+◌, ◌-◌, ◌<◌, ◌≤◌, length};
+ghost use Rattle.std.specs.Prelude.{◌≡◌, [], ◌+◌, ◌-◌, ◌<◌, ◌≤◌, length};
 ghost use Rattle.std.proofs.Math.Seq.{paste};
 ghost use Rattle.standard.specs.Records.{plain, salvage, entering};
 ghost use Rattle.standard.specs.Reading.{reply_in, read_answer, laid_over, output_after};
@@ -14,31 +14,29 @@ ghost use Rattle.reading.specs.Answers.{Measures, Room, body_in, answered_by, fi
 
 use blocks::{copy, onward};
 use labels::Form;
-use opening::{FileNumbers, Seat, Stage, begin, in_file, seat_at};
+use opening::{FileNumbers, Seat, begin, in_file, seat_at};
 use pieces::head;
 use standard::{Answer, Place, Refusal};
-use walks::{Measured, Stand, Turn, Walk, at_end, length_of, take_turn, turn_in};
+use walks::{Measured, Mode, Stand, Turn, Walk, at_end, length_of, take_turn, turn_in};
 
 // The length of the record that was met.
-fn length_in(x: Measured) -> u64
+fn length_in(x: Result<Measured, Refusal>) -> u64
     ensures { result ≡ length_in x }
 {
     match x {
-        Measured::Took(length, first, place) => length,
-        Measured::Lost(place) => 0,
-        Measured::Ended => 0,
-        Measured::Failed(r) => 0,
+        Ok(Measured::Took(length, _, _)) => length,
+        _ => 0,
     }
 }
 
 // What a reader meets, measured: no byte is copied.
-fn measure(image: &[u8], f: FileNumbers, salvage: bool, from: Walk) -> Measured
+fn measure(image: &[u8], f: FileNumbers, mode: Mode, from: Walk) -> Result<Measured, Refusal>
     requires { (Opened image.now f) × (Walking image.now f from) }
-    ensures { Measures image.now f salvage from result }
+    ensures { Measures image.now f mode from result }
 {
     let mut w = from;
     while w.place.block < f.count {
-        let t = take_turn(image, f, salvage, w);
+        let t = take_turn(image, f, mode, w);
         match t {
             Turn::Done(x) => {
                 return x;
@@ -65,13 +63,13 @@ fn put(image: &[u8], f: FileNumbers, w: Walk, to: u64, out: &mut [u8])
 }
 
 // Lays into the output the record that was measured: the same walk again, but for the question whether a block is lost, which measuring has answered.
-fn deliver(image: &[u8], f: FileNumbers, salvage: bool, from: Walk, out: &mut [u8])
-    requires { (Opened image.now f) × (Walking image.now f from) × (length_of from.stand ≡ 0) × (Room (length out.old) (met_from image.now f salvage from [])) }
-    ensures { out.new ≡ laid_over (body_in (met_from image.now f salvage from [])) out.old }
+fn deliver(image: &[u8], f: FileNumbers, mode: Mode, from: Walk, out: &mut [u8])
+    requires { (Opened image.now f) × (Walking image.now f from) × (length_of from.stand ≡ 0) × (Room (length out.old) (met_from image.now f mode from [])) }
+    ensures { out.new ≡ laid_over (body_in (met_from image.now f mode from [])) out.old }
 {
     let mut w = from;
     while w.place.block < f.count {
-        let t = turn_in(image, f, salvage, w);
+        let t = turn_in(image, f, mode, w);
         match t {
             Turn::Done(x) => {
                 put(image, f, w, length_in(x), out);
@@ -87,42 +85,44 @@ fn deliver(image: &[u8], f: FileNumbers, salvage: bool, from: Walk, out: &mut [u
 }
 
 // The answer to what was measured, where the output has so much room: "23 last".
-fn answered(count: u64, x: Measured, room: u64) -> Answer
+fn answered(count: u64, x: Result<Measured, Refusal>, room: u64) -> Result<Answer, Refusal>
     ensures { result ≡ answered_by count room x }
 {
-    match x {
-        Measured::Took(length, first, place) => {
+    let met = x?;
+    match met {
+        Measured::Took(length, _, place) => {
             if room < length {
-                return Answer::Unanswered(Refusal::at(23, length));
+                return Err(Refusal::at(23, length));
             }
-            Answer::Record(length, place)
+            Ok(Answer::Record(length, place))
         }
-        Measured::Lost(place) => Answer::Gap(place),
-        Measured::Ended => {
-            Answer::End(Place {
-                block: count,
-                offset: 0,
-                mark: false,
-            })
-        }
-        Measured::Failed(r) => Answer::Unanswered(r),
+        Measured::Lost(place) => Ok(Answer::Gap(place)),
+        Measured::Ended => Ok(Answer::End(Place {
+            block: count,
+            offset: 0,
+            mark: false,
+        })),
     }
 }
 
 // Whether it was a record, and the output has room for it.
-fn fits(x: Measured, room: u64) -> bool
+fn fits(x: Result<Measured, Refusal>, room: u64) -> bool
     ensures { result ≡ fits_in room x }
 {
     match x {
-        Measured::Took(length, first, place) => length <= room,
-        Measured::Lost(place) => false,
-        Measured::Ended => false,
-        Measured::Failed(r) => false,
+        Ok(Measured::Took(length, _, _)) => length <= room,
+        _ => false,
     }
 }
 
 // A reading that one turn has measured: the record stands in one block, behind its control word.
-fn at_once(image: &[u8], f: FileNumbers, w: Walk, x: Measured, out: &mut [u8]) -> Answer
+fn at_once(
+    image: &[u8],
+    f: FileNumbers,
+    w: Walk,
+    x: Result<Measured, Refusal>,
+    out: &mut [u8],
+) -> Result<Answer, Refusal>
     requires { (Opened image.now f) × (Walking image.now f w) × (length_of w.stand ≡ 0) × (ReachedBy image.now f w x) }
     ensures { Answers image.now f (met_with (grown image.now f w [] (length_in x)) x) out.old out.new result }
 {
@@ -138,30 +138,36 @@ fn at_once(image: &[u8], f: FileNumbers, w: Walk, x: Measured, out: &mut [u8]) -
 fn at_length(
     image: &[u8],
     f: FileNumbers,
-    salvage: bool,
+    mode: Mode,
     w: Walk,
-    x: Measured,
+    x: Result<Measured, Refusal>,
     out: &mut [u8],
-) -> Answer
-    requires { (Opened image.now f) × (Walking image.now f w) × (length_of w.stand ≡ 0) × (x ≡ measured (met_from image.now f salvage w [])) }
-    ensures { Answers image.now f (met_from image.now f salvage w []) out.old out.new result }
+) -> Result<Answer, Refusal>
+    requires { (Opened image.now f) × (Walking image.now f w) × (length_of w.stand ≡ 0) × (x ≡ measured (met_from image.now f mode w [])) }
+    ensures { Answers image.now f (met_from image.now f mode w []) out.old out.new result }
 {
     let room = out.len() as u64;
     if !fits(x, room) {
         return answered(f.count, x, room);
     }
-    deliver(image, f, salvage, w, out);
+    deliver(image, f, mode, w, out);
     answered(f.count, x, room)
 }
 
 // The answer to a reader on its way. As long as nothing of a record has come, a turn only leads further.
-fn read_from(image: &[u8], f: FileNumbers, salvage: bool, from: Walk, out: &mut [u8]) -> Answer
+fn read_from(
+    image: &[u8],
+    f: FileNumbers,
+    mode: Mode,
+    from: Walk,
+    out: &mut [u8],
+) -> Result<Answer, Refusal>
     requires { (Opened image.now f) × (Walking image.now f from) × (length_of from.stand ≡ 0) }
-    ensures { Answers image.now f (met_from image.now f salvage from []) out.old out.new result }
+    ensures { Answers image.now f (met_from image.now f mode from []) out.old out.new result }
 {
     let mut w = from;
     while w.place.block < f.count {
-        let t = take_turn(image, f, salvage, w);
+        let t = take_turn(image, f, mode, w);
         match t {
             Turn::Done(x) => {
                 return at_once(image, f, w, x, out);
@@ -169,7 +175,7 @@ fn read_from(image: &[u8], f: FileNumbers, salvage: bool, from: Walk, out: &mut 
             Turn::On(v) => {
                 let stand = v.stand;
                 if 0 < length_of(stand) {
-                    return at_length(image, f, salvage, w, measure(image, f, salvage, v), out);
+                    return at_length(image, f, mode, w, measure(image, f, mode, v), out);
                 }
                 w = v;
             }
@@ -180,24 +186,24 @@ fn read_from(image: &[u8], f: FileNumbers, salvage: bool, from: Walk, out: &mut 
 }
 
 // "In plain reading, at offsets above 0, and in F and V, the mark counts as absent."
-fn stand_at(form: Form, salvage: bool, place: Place) -> Stand
-    ensures { (state_with [] result ≡ entering (mode_of salvage) (format_for form) place.offset place.mark) × (length_of result ≡ 0) }
+fn stand_at(form: Form, mode: Mode, place: Place) -> Stand
+    ensures { (state_with [] result ≡ entering (mode_of mode) (format_for form) place.offset place.mark) × (length_of result ≡ 0) }
 {
-    let offset = place.offset;
-    if !(salvage & place.mark & (offset == 0)) {
-        return Stand::Fresh;
-    }
-    match form {
-        Form::Fixed => Stand::Fresh,
-        Form::Variable => Stand::Fresh,
-        Form::Spanned => Stand::Marked,
+    match (mode, form) {
+        (Mode::Salvage, Form::Spanned) => {
+            if place.mark & (place.offset == 0) {
+                return Stand::Marked;
+            }
+            Stand::Fresh
+        }
+        _ => Stand::Fresh,
     }
 }
 
 // An answer, and the seat of the block where its reading began: the next reading goes on from there.
 #[derive(Clone, Copy)]
 pub struct Heard {
-    pub answer: Answer,
+    pub answer: Result<Answer, Refusal>,
     pub seat: Seat,
 }
 
@@ -205,58 +211,59 @@ pub struct Heard {
 pub fn read_on(
     image: &[u8],
     f: FileNumbers,
-    salvage: bool,
+    mode: Mode,
     seat: Seat,
     place: Place,
     out: &mut [u8],
 ) -> Heard
     requires { (Opened image.now f) × (Seated image.now f seat.block seat.at) }
-    ensures { (result.answer ≡ (reply_in (mode_of salvage) (file_of image.now f) place (length out.old)).answer) × (out.new ≡ laid_over (reply_in (mode_of salvage) (file_of image.now f) place (length out.old)).body out.old) × (Seated image.now f result.seat.block result.seat.at) }
+    ensures { (result.answer ≡ (reply_in (mode_of mode) (file_of image.now f) place (length out.old)).answer) × (out.new ≡ laid_over (reply_in (mode_of mode) (file_of image.now f) place (length out.old)).body out.old) × (Seated image.now f result.seat.block result.seat.at) }
 {
     if !in_file(f, place) {
         return Heard {
-            answer: Answer::Unanswered(Refusal::at(19, 0)),
-            seat: seat,
+            answer: Err(Refusal::at(19, 0)),
+            seat,
         };
     }
     let form = f.form;
     let s = seat_at(image, f, seat, place.block);
     let at = s.at;
     let w = Walk {
-        place: place,
-        at: at,
-        stand: stand_at(form, salvage, place),
+        place,
+        at,
+        stand: stand_at(form, mode, place),
     };
     Heard {
-        answer: read_from(image, f, salvage, w, out),
+        answer: read_from(image, f, mode, w, out),
         seat: s,
     }
 }
 
 // A place of the file in a slot. "A file call stops at the first refusal of the volume."
-fn answer_at(image: &[u8], slot: u64, salvage: bool, place: Place, out: &mut [u8]) -> Answer
-    ensures { (result ≡ read_answer (mode_of salvage) image.now slot place out.old) × (out.new ≡ output_after (mode_of salvage) image.now slot place out.old) }
+fn answer_at(
+    image: &[u8],
+    slot: u64,
+    mode: Mode,
+    place: Place,
+    out: &mut [u8],
+) -> Result<Answer, Refusal>
+    ensures { (result ≡ read_answer (mode_of mode) image.now slot place out.old) × (out.new ≡ output_after (mode_of mode) image.now slot place out.old) }
 {
-    let stage = begin(image, slot);
-    match stage {
-        Stage::Closed(r) => Answer::Unanswered(r),
-        Stage::Going(f, seat) => {
-            let heard = read_on(image, f, salvage, seat, place, out);
-            heard.answer
-        }
-    }
+    let stage = begin(image, slot)?;
+    let heard = read_on(image, stage.file, mode, stage.seat, place, out);
+    heard.answer
 }
 
 // "Reading a place gives the record and the place right behind it."
-pub fn read(image: &[u8], slot: u64, place: Place, out: &mut [u8]) -> Answer
+pub fn read(image: &[u8], slot: u64, place: Place, out: &mut [u8]) -> Result<Answer, Refusal>
     ensures { (result ≡ read_answer plain image.now slot place out.old) × (out.new ≡ output_after plain image.now slot place out.old) }
 {
-    answer_at(image, slot, false, place, out)
+    answer_at(image, slot, Mode::Plain, place, out)
 }
 
 // "Salvage answers record, gap, End or refusal."
-pub fn salvage(image: &[u8], slot: u64, place: Place, out: &mut [u8]) -> Answer
+pub fn salvage(image: &[u8], slot: u64, place: Place, out: &mut [u8]) -> Result<Answer, Refusal>
     ensures { (result ≡ read_answer salvage image.now slot place out.old) × (out.new ≡ output_after salvage image.now slot place out.old) }
 {
-    answer_at(image, slot, true, place, out)
+    answer_at(image, slot, Mode::Salvage, place, out)
 }

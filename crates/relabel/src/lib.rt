@@ -10,25 +10,26 @@ ghost use Rattle.layout.specs.Room.{Room};
 
 use layout::{label_offset, slot_mark, slot_offset};
 use standard::{Address, Geometry};
-use text::{put_bytes, put_padded};
+use text::Text;
 
 // "U (spaces for 0)", in the five positions of its field
-fn put_unused(image: &mut [u8], at: usize, U: u64) -> usize
+fn put_unused(image: &mut [u8], at: usize, U: u64)
     requires { (at < 4294967296) × (at + 5 ≤ length image.old) }
     ensures { image.new ≡ splice at (unused_field U) image.old }
 {
+    let mut field = Text::at(image, at);
     if U == 0 {
-        return put_bytes(image, at, b"     ");
+        return field.bytes(b"     ");
     }
-    put_padded(image, at, 5, U)
+    field.padded(5, U);
 }
 
 // "Addresses have five digits"
-pub fn put_address(image: &mut [u8], at: usize, a: Address) -> usize
+pub fn put_address(image: &mut [u8], at: usize, a: Address)
     requires { (at < 4294967296) × (at + 5 ≤ length image.old) × (a.cylinder < 3000) × (a.side < 256) × (a.sector < 3000) }
     ensures { image.new ≡ splice at (five_bytes a) image.old }
 {
-    text::put_address(image, at, a)
+    Text::at(image, at).address(a);
 }
 
 // Both: U stands in positions 58-62 of the label, the data end in positions 75-79.
@@ -41,15 +42,13 @@ pub fn set_label(g: Geometry, image: &mut [u8], slot: u64, U: u64, end: Address)
     put_address(image, at + 74, end);
 }
 
-// Bytes over as many others.
+// Bytes over as many others. (Byte by byte, as `fields::copy_run`.)
 fn lay_over(part: &mut [u8], bytes: &[u8])
     requires { length part.old ≡ length bytes.now }
     ensures { part.new ≡ bytes.now }
 {
-    let mut i = 0;
-    while i < bytes.len() {
+    for i in 0..bytes.len() {
         part[i] = bytes[i];
-        i += 1;
     }
 }
 

@@ -1,6 +1,7 @@
 -- One length more: what the loops over a list of lengths keep.
 -- Assumes nothing.
-use Prim.Native.Nat.{ℕ, zero, suc, ◌+◌, ◌-◌, ◌<◌, ◌≤◌}
+use Rattle.std.specs.Prelude.{Result, Ok, Err, ⊤}
+use Prim.Native.Nat.{ℕ, ◌+◌, ◌-◌, ◌<◌, ◌≤◌}
 use mathlib.Core.Path.{◌≡◌, refl, sym, ap, ◌∙◌}
 use mathlib.Core.Bool.{Bool, true, false, cond}
 use mathlib.Core.List.{List, [], ◌∷◌}
@@ -9,19 +10,17 @@ use lib.Seq.{drop-cons}
 use lib.Dec.{eqb}
 use native.Mathlib.Omega.{arith}
 use native.Mathlib.Numerals.{add-one}
-use native.Mathlib.Nat.{not-suc-le-zero}
-use borrow.Author.Tests.{eq-eqb, ne_eqb, le-leb, lt-leb}
+use borrow.Author.Tests.{eq-eqb, ne_eqb}
 use Rattle.standard.specs.Refusals.{refuse}
 use Rattle.standard.specs.Labels.{Format, format_of, block_length, record_length}
 use Rattle.standard.specs.Writing.{total, wrong_in, wrong_length, lengths_from}
-use Rattle.standard.specs.declared.Checked.{Checked}
-use Rattle.standard.specs.declared.Checked.TheVariants.{Passed, Stopped}
 use Rattle.promises.specs.Ground.Basics.{either, eq_or_not}
 use Rattle.promises.specs.Ground.Lists.{every_at}
 use Rattle.promises.specs.Writing.StoreLaws.{total_drop}
-use Rattle.promises.specs.Writing.NeededLaws.{Level as LevelOf, level_of, placed_whole, spread_to, least_for, placed_spanned, placed, level_from, FitsIn, EachFits}
+use Rattle.promises.specs.Writing.NeededLaws.{Level as LevelOf, level_of, least_for, placed, level_from, FitsIn, EachFits}
 use Rattle.promises.proofs.Writing.NeededLaws.{level_next, least_most, six_left}
 use Rattle.sizing.specs.Lists.{wrong_from, Stands}
+use Rattle.standard.specs.declared.Refusal.{Refusal}
 use Rattle.sizing.specs.declared.Level.{Level}
 
 -- ---- the sum
@@ -44,7 +43,7 @@ sum_end lengths i left size h e =
 pub wrong_is : (h : List ℕ) (i : ℕ) (lengths : List ℕ) → lengths_from h i lengths ≡ wrong_from (format_of h) (block_length h) (record_length h) i lengths
 unfolding lengths_from wrong_from wrong_length
 wrong_is h i [] = refl
-wrong_is h i (n ∷ lengths) = ap (λ (c : Checked). cond (wrong_length h n) (Stopped (refuse 26 i)) c) (wrong_is h (i + 1) lengths)
+wrong_is h i (n ∷ lengths) = ap (λ (c : Result ⊤ Refusal). cond (wrong_length h n) (Err (refuse 26 i)) c) (wrong_is h (i + 1) lengths)
 
 pub wrong_next : (f : Format) (B R : ℕ) (lengths : List ℕ) (i : ℕ) → i < length lengths → wrong_in f B R (get_or lengths i 0) ≡ false
     → wrong_from f B R i (drop i lengths) ≡ wrong_from f B R (i + 1) (drop (i + 1) lengths)
@@ -52,11 +51,11 @@ unfolding wrong_from
 wrong_next f B R lengths i h e = rw (drop-cons lengths i 0, add-one) (simp e)
 
 pub wrong_stop : (f : Format) (B R : ℕ) (lengths : List ℕ) (i : ℕ) → i < length lengths → wrong_in f B R (get_or lengths i 0) ≡ true
-    → wrong_from f B R i (drop i lengths) ≡ Stopped (refuse 26 i)
+    → wrong_from f B R i (drop i lengths) ≡ Err (refuse 26 i)
 unfolding wrong_from
 wrong_stop f B R lengths i h e = rw (drop-cons lengths i 0) (simp e)
 
-pub wrong_none : (f : Format) (B R : ℕ) (lengths : List ℕ) (i : ℕ) → length lengths ≤ i → wrong_from f B R i (drop i lengths) ≡ Passed
+pub wrong_none : (f : Format) (B R : ℕ) (lengths : List ℕ) (i : ℕ) → length lengths ≤ i → wrong_from f B R i (drop i lengths) ≡ Ok tt
 unfolding wrong_from
 wrong_none f B R lengths i h = ap (wrong_from f B R i) (drop_of_length-le lengths h)
 
@@ -69,29 +68,12 @@ pub fits_at : (f : Format) (B : ℕ) (lengths : List ℕ) (i : ℕ) → i < leng
 fits_at f B lengths i h e = every_at (FitsIn f B) lengths e i h 0
 
 -- ---- one record of S
-pub least_none : (n : ℕ) → n ≤ 0 → least_for n ≡ 5
-least_none zero h = refl
-least_none (suc n) h = absurd (not-suc-le-zero h)
-
 -- where a segment does not end, it takes a byte at least; the next block has room for one
 pub takes_one : (B room n : ℕ) → room < 5 + n → least_for n ≤ room → least_for n ≤ B → (6 ≤ room) × (least_for (n - (room - 5)) ≤ B)
 takes_one B room n l h hb =
     let on = six_left n room B l h hb in
     let more = least_most (n - (room - 5)) in
     (on.0, omega arith)
-
--- ---- one record
-pub whole_here : (B room blocks n : ℕ) → n ≤ room → placed_whole B room blocks n ≡ level_of (room - n) blocks
-whole_here B room blocks n h = rw (le-leb n room h)
-
-pub whole_after : (B room blocks n : ℕ) → room < n → placed_whole B room blocks n ≡ level_of (B - n) (suc blocks)
-whole_after B room blocks n h = rw (lt-leb n room h)
-
-pub spanned_here : (B room blocks n : ℕ) → least_for n ≤ room → placed_spanned B room blocks n ≡ spread_to (suc n) B room blocks n
-spanned_here B room blocks n h = rw (le-leb (least_for n) room h)
-
-pub spanned_after : (B room blocks n : ℕ) → room < least_for n → placed_spanned B room blocks n ≡ spread_to (suc n) B B (suc blocks) n
-spanned_after B room blocks n h = rw (lt-leb (least_for n) room h)
 
 -- the code's level stands where another does that is the same
 pub stands_as : (l : Level) {j k : LevelOf} → j ≡ k → Stands l k → Stands l j

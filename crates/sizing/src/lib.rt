@@ -2,14 +2,14 @@
 // leaves unused. Everything here is inner; it looks at the lengths alone.
 #![tactic(auto)]
 
-ghost use Rattle.std.specs.Prelude.{◌≡◌, suc, ◌+◌, ◌<◌, ◌≤◌, eqb, length, get_or};
+ghost use Rattle.std.specs.Prelude.{◌≡◌, suc, ◌+◌, ◌<◌, ◌≤◌, eqb, length};
 ghost use Rattle.standard.specs.Writing.{total, wrong_in};
 ghost use Rattle.promises.specs.Writing.NeededLaws.{placed_whole, spread_to, least_for, placed_spanned, placed, level_from, FitsIn, EachFits};
 ghost use Rattle.labels.specs.Forms.{format_for};
 ghost use Rattle.sizing.specs.Lists.{wrong_from, Stands};
 
 use labels::Form;
-use standard::{Checked, Refusal};
+use standard::Refusal;
 
 // Where a writer stands: the room left in the current block, and the blocks begun.
 #[derive(Clone, Copy)]
@@ -18,33 +18,17 @@ pub struct Level {
     pub blocks: u64,
 }
 
-// A length as a number of 64 bits; the one at i of a list.
-fn wide(n: u32) -> u64
-    ensures { (result ≡ n) × (result < 4294967296) }
-{
-    n as u64
-}
-
-fn length_at(lengths: &[u32], i: usize) -> u64
-    requires { i < length lengths.now }
-    ensures { (result ≡ get_or lengths.now i 0) × (result < 4294967296) }
-{
-    wide(lengths[i])
-}
-
 // Refusal 25 asks this: whether the lengths sum to a number. What is left of it is counted down, so that no sum is too large.
 pub fn sums_to(lengths: &[u32], size: u64) -> bool
     ensures { result ≡ eqb (total lengths.now) size }
 {
     let mut left = size;
-    let mut i = 0;
-    while i < lengths.len() {
-        let n = length_at(lengths, i);
+    for &length in lengths {
+        let n = u64::from(length);
         if left < n {
             return false;
         }
         left -= n;
-        i += 1;
     }
     left == 0
 }
@@ -62,17 +46,15 @@ fn is_wrong(form: Form, B: u64, R: u64, n: u64) -> bool
 }
 
 // Refusal 26: the first record whose length is wrong, from 0.
-pub fn first_wrong(form: Form, B: u64, R: u64, lengths: &[u32]) -> Checked
+pub fn first_wrong(form: Form, B: u64, R: u64, lengths: &[u32]) -> Result<(), Refusal>
     ensures { result ≡ wrong_from (format_for form) B R 0 lengths.now }
 {
-    let mut i = 0;
-    while i < lengths.len() {
-        if is_wrong(form, B, R, length_at(lengths, i)) {
-            return Checked::Stopped(Refusal::at(26, i as u64));
+    for (i, &n) in lengths.iter().enumerate() {
+        if is_wrong(form, B, R, u64::from(n)) {
+            return Err(Refusal::at(26, i as u64));
         }
-        i += 1;
     }
-    Checked::Passed
+    Ok(())
 }
 
 // F and V: "into the current block if it fits, else the next".
@@ -85,7 +67,7 @@ fn place_whole(B: u64, l: Level, n: u64) -> Level
     if n <= room {
         return Level {
             room: room - n,
-            blocks: blocks,
+            blocks,
         };
     }
     Level {
@@ -109,7 +91,7 @@ fn spread(B: u64, l: Level, body: u64) -> Level
     }
     Level {
         room: room - (5 + n),
-        blocks: blocks,
+        blocks,
     }
 }
 
@@ -167,10 +149,8 @@ pub fn level_after(form: Form, blocked: bool, B: u64, lengths: &[u32]) -> Level
     ensures { Stands result (level_from (format_for form) blocked B 0 0 lengths.now) }
 {
     let mut l = Level { room: 0, blocks: 0 };
-    let mut i = 0;
-    while i < lengths.len() {
-        l = place(form, blocked, B, l, length_at(lengths, i));
-        i += 1;
+    for &n in lengths {
+        l = place(form, blocked, B, l, u64::from(n));
     }
     l
 }

@@ -1,5 +1,6 @@
 -- The exits of `Address::step` and `Address::read`, and the digits between, as the code meets them.
 -- Assumes nothing.
+use Rattle.std.specs.Prelude.{Some, None}
 use Prim.Native.Nat.{ℕ, ◌+◌, ◌*◌, ◌<◌, ◌≤◌}
 use mathlib.Core.Path.{◌≡◌, sym, ap, ◌∙◌}
 use mathlib.Core.Bool.{Bool, true, false, not, ◌&&◌, and-false}
@@ -14,7 +15,6 @@ use Rattle.standard.specs.Characters.{is_digit, digit_value}
 use Rattle.standard.specs.Addresses.{stepped, five_digits, two_digits, address_in, five_read}
 use Rattle.standard.specs.declared.Geometry.{Geometry}
 use Rattle.standard.specs.declared.Address.{Address}
-use Rattle.standard.specs.declared.FiveDigits.TheVariants.{NotDigits, Digits}
 
 -- The exits of `Address::step`. The code compares with numbers l, s, d that are the volume's cylinders, sides and sectors, and asks whether a side follows.
 pub side_fits : (n s : ℕ) (more : Bool) → s < 256 → more ≡ ltb (n + 1) s → more ≡ true → Fits w64 (n + 1)
@@ -61,14 +61,14 @@ unfolding address_in
 address_spelled f c s n hc hs hn = rw (hc, hs, hn)
 
 -- the exits of `Address::read`
-pub read_short : (f : List ℕ) → length f < 5 → NotDigits ≡ five_read f
+pub read_short : (f : List ℕ) → length f < 5 → None ≡ five_read f
 unfolding five_read five_digits is_digit
 read_short f h = rw (get_or-eq_default f 0 {n = 4} (omega arith)) (simp (and-false (is_digit (get_or f 0 0) && is_digit (get_or f 1 0) && is_digit (get_or f 2 0) && is_digit (get_or f 3 0))))
 
-pub read_no : (f : List ℕ) → not (five_digits f) ≡ true → NotDigits ≡ five_read f
+pub read_no : (f : List ℕ) → not (five_digits f) ≡ true → None ≡ five_read f
 unfolding five_read
 read_no f h = simp (not-true (five_digits f) h)
 
-pub read_yes : (f : List ℕ) (x : Address) → not (five_digits f) ≡ false → x ≡ address_in f → Digits x ≡ five_read f
+pub read_yes : (f : List ℕ) (x : Address) → not (five_digits f) ≡ false → x ≡ address_in f → Some x ≡ five_read f
 unfolding five_read
 read_yes f x h e = simp (e, not-false (five_digits f) h)

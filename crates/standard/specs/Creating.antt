@@ -1,6 +1,6 @@
 -- Request 2026-01, "Make and drop files on the box": creating a file and deleting one; refusals 28 and 29.
 -- Assumes nothing.
-use Rattle.std.specs.Prelude.{ℕ, zero, suc, ◌+◌, ◌-◌, Bool, true, cond, not, ◌&&◌, List, [], ◌∷◌, ◌++◌, map, length, take, drop, replicate, ltb, eqb}
+use Rattle.std.specs.Prelude.{ℕ, zero, suc, ◌+◌, ◌-◌, Bool, true, cond, not, ◌&&◌, List, [], ◌∷◌, ◌++◌, map, length, take, drop, replicate, ltb, eqb, Result, Option, Ok, Err, Some, None, ⊤}
 use Rattle.standard.specs.Characters.{bytes, byte}
 use Rattle.standard.specs.Refusals.{refuse, refuse_at, given_when, in_order}
 use Rattle.standard.specs.Rules.{Row, row, lowest_fault}
@@ -15,16 +15,9 @@ use Rattle.standard.specs.Writing.{splice, refusal24}
 use Rattle.standard.specs.Free.{taken}
 use Rattle.standard.specs.declared.Geometry.{Geometry}
 use Rattle.standard.specs.declared.Address.{Address}
-use Rattle.standard.specs.declared.Checked.{Checked}
-use Rattle.standard.specs.declared.Checked.TheVariants.{Passed, Stopped}
 use Rattle.standard.specs.declared.Found.{Found}
-use Rattle.standard.specs.declared.Found.TheVariants.{Unfound, At}
-use Rattle.standard.specs.declared.Counted.{Counted}
-use Rattle.standard.specs.declared.Counted.TheVariants.{Uncounted, Count}
-use Rattle.standard.specs.declared.Run.{Run}
-use Rattle.standard.specs.declared.Run.TheVariants.{NoRun, RunAt}
+use Rattle.standard.specs.declared.Refusal.{Refusal}
 use Rattle.standard.specs.declared.Created.{Created}
-use Rattle.standard.specs.declared.Created.TheVariants.{Uncreated, Placed}
 
 -- "Creating takes the 29 bytes of label fields 6-22, 23-27, 40, 44, 54-57, 63": joined in this order, as they will stand. "Other fields are spaces, the data
 -- end is the start." The label of the 29 bytes with an extent from a start to an end; 1-4 make it a label (valid mark, `HDR1`).
@@ -66,15 +59,15 @@ proposed_rules g w n = map (bracket w n (draft w)) (hdr1_rules g (draft w))
 unfoldable pub proposal_fault : Geometry → List ℕ → ℕ → ℕ
 proposal_fault g w n = lowest_fault (proposed_rules g w n)
 
-abbrev pub refusal10for : Geometry → List ℕ → ℕ → Checked
+abbrev pub refusal10for : Geometry → List ℕ → ℕ → Result ⊤ Refusal
 refusal10for g w n = given_when (ltb 0 (proposal_fault g w n)) (refuse_at 10 0 (proposal_fault g w n))
 
 -- "12 for a name in use, with the slot that has it"
-abbrev pub name_used : Found → Checked
-name_used (Unfound r) = Passed
-name_used (At slot offset) = Stopped (refuse 12 slot)
+abbrev pub name_used : Result Found Refusal → Result ⊤ Refusal
+name_used (Err r) = Ok tt
+name_used (Ok f) = Err (refuse 12 f.slot)
 
-abbrev pub refusal12for : Geometry → List ℕ → List ℕ → Checked
+abbrev pub refusal12for : Geometry → List ℕ → List ℕ → Result ⊤ Refusal
 refusal12for g image w = name_used (found_from g image (name_in w) (slot_count g) 1)
 
 -- "the lowest deleted slot": the first of `left` slots from `slot` on, 0 for none. "28 no deleted slot"
@@ -85,7 +78,7 @@ deleted_from g image (suc left) slot = cond (is_deleted g image slot) slot (dele
 unfoldable pub lowest_deleted : Geometry → List ℕ → ℕ
 lowest_deleted g image = deleted_from g image (slot_count g) 1
 
-abbrev pub refusal28 : Geometry → List ℕ → Checked
+abbrev pub refusal28 : Geometry → List ℕ → Result ⊤ Refusal
 refusal28 g image = given_when (eqb (lowest_deleted g image) 0) (refuse 28 0)
 
 -- "the lowest free run of n consecutive data addresses": an address is meant by its number from 0 (`rank`), and it is free if no label's extent has it. n
@@ -95,26 +88,26 @@ unfoldable pub free_run : Geometry → List ℕ → ℕ → ℕ → Bool
 free_run g image zero i = true
 free_run g image (suc n) i = not (taken g image i (slot_count g)) && free_run g image n (i + 1)
 
-unfoldable pub run_from : Geometry → List ℕ → ℕ → ℕ → ℕ → Run
-run_from g image n zero i = NoRun
-run_from g image n (suc left) i = cond (free_run g image n i) (RunAt i) (run_from g image n left (i + 1))
+unfoldable pub run_from : Geometry → List ℕ → ℕ → ℕ → ℕ → Option ℕ
+run_from g image n zero i = None
+run_from g image n (suc left) i = cond (free_run g image n i) (Some i) (run_from g image n left (i + 1))
 
-unfoldable pub lowest_run : Geometry → List ℕ → ℕ → Run
+unfoldable pub lowest_run : Geometry → List ℕ → ℕ → Option ℕ
 lowest_run g image n = run_from g image n (suc (address_count g) - n) 0
 
-abbrev pub no_room : Run → Checked
-no_room NoRun = Stopped (refuse 29 0)
-no_room (RunAt i) = Passed
+abbrev pub no_room : Option ℕ → Result ⊤ Refusal
+no_room None = Err (refuse 29 0)
+no_room (Some i) = Ok tt
 
-abbrev pub run_start : Run → ℕ
-run_start NoRun = 0
-run_start (RunAt i) = i
+abbrev pub run_start : Option ℕ → ℕ
+run_start None = 0
+run_start (Some i) = i
 
-abbrev pub refusal29 : Geometry → List ℕ → ℕ → Checked
+abbrev pub refusal29 : Geometry → List ℕ → ℕ → Result ⊤ Refusal
 refusal29 g image n = no_room (lowest_run g image n)
 
 -- "Refusals: after 1-12 on the volume, 10 for the proposed label [..], 12 for a name in use [..], then 28 no deleted slot, 29 no run"
-abbrev pub create_list : Geometry → List ℕ → List ℕ → ℕ → List Checked
+abbrev pub create_list : Geometry → List ℕ → List ℕ → ℕ → List (Result ⊤ Refusal)
 create_list g image w n =
     refusal10for g w n
     ∷ refusal12for g image w
@@ -122,7 +115,7 @@ create_list g image w n =
     ∷ refusal29 g image n
     ∷ []
 
-unfoldable pub create_refusal : Geometry → List ℕ → List ℕ → ℕ → Checked
+unfoldable pub create_refusal : Geometry → List ℕ → List ℕ → ℕ → Result ⊤ Refusal
 create_refusal g image w n = in_order (create_list g image w n)
 
 -- "A slot is a label (valid mark, `HDR1`) or deleted (incorrect mark, first byte `D`)": what both calls do to the image, one store to a slot's sector. Its kind
@@ -148,29 +141,33 @@ created_label g image w n = proposed w (created_start g image n) (created_end g 
 unfoldable pub image_created : Geometry → List ℕ → List ℕ → ℕ → List ℕ
 image_created g image w n = image_with_label g (lowest_deleted g image) (created_label g image w n) image
 
+-- a file made: the slot of its label, and its start
+abbrev pub file_made : ℕ → Address → Result Created Refusal
+file_made slot start = Ok (record { slot = slot; start = start })
+
 -- THE ANSWER to creating, and the image afterwards. "A refusal returns number and place, and all lent bytes stay."
 pub record Creation : Type 0 where
-  pub answer : Created
+  pub answer : Result Created Refusal
   pub image : List ℕ
 
-abbrev pub create_unless : Checked → List ℕ → Creation → Creation
-create_unless Passed image done = done
-create_unless (Stopped r) image done = record { answer = Uncreated r; image = image }
+abbrev pub create_unless : Result ⊤ Refusal → List ℕ → Creation → Creation
+create_unless (Ok _) image done = done
+create_unless (Err r) image done = record { answer = Err r; image = image }
 
 unfoldable pub creation : List ℕ → List ℕ → ℕ → Creation
 creation image w n =
-    on_volume (judged image) (λ r. record { answer = Uncreated r; image = image })
+    on_volume (judged image) (λ r. record { answer = Err r; image = image })
     (λ g. create_unless (create_refusal g image w n) image
-    (record { answer = Placed (lowest_deleted g image) (created_start g image n); image = image_created g image w n }))
+    (record { answer = file_made (lowest_deleted g image) (created_start g image n); image = image_created g image w n }))
 
-abbrev pub created : List ℕ → List ℕ → ℕ → Created
+abbrev pub created : List ℕ → List ℕ → ℕ → Result Created Refusal
 created image w n = (creation image w n).answer
 
 abbrev pub image_after_create : List ℕ → List ℕ → ℕ → List ℕ
 image_after_create image w n = (creation image w n).image
 
 -- "delete gives 13, 14, 24"
-abbrev pub delete_list : Geometry → List ℕ → ℕ → List Checked
+abbrev pub delete_list : Geometry → List ℕ → ℕ → List (Result ⊤ Refusal)
 delete_list g image slot =
     let h = label_at g image slot in
     refusal13 g image slot
@@ -178,7 +175,7 @@ delete_list g image slot =
     ∷ refusal24 h slot
     ∷ []
 
-unfoldable pub delete_refusal : Geometry → List ℕ → ℕ → Checked
+unfoldable pub delete_refusal : Geometry → List ℕ → ℕ → Result ⊤ Refusal
 delete_refusal g image slot = in_order (delete_list g image slot)
 
 -- "Deleting gives the slot the incorrect mark and first byte `D`, nothing else."
@@ -187,20 +184,20 @@ image_without g slot image = store_slot g slot 16 (byte "D" ∷ []) image
 
 -- THE ANSWER to deleting, the number of physical records that are free again, and the image afterwards
 pub record Deletion : Type 0 where
-  pub answer : Counted
+  pub answer : Result ℕ Refusal
   pub image : List ℕ
 
-abbrev pub delete_unless : Checked → List ℕ → Deletion → Deletion
-delete_unless Passed image done = done
-delete_unless (Stopped r) image done = record { answer = Uncounted r; image = image }
+abbrev pub delete_unless : Result ⊤ Refusal → List ℕ → Deletion → Deletion
+delete_unless (Ok _) image done = done
+delete_unless (Err r) image done = record { answer = Err r; image = image }
 
 unfoldable pub deletion : List ℕ → ℕ → Deletion
 deletion image slot =
-    on_volume (judged image) (λ r. record { answer = Uncounted r; image = image })
+    on_volume (judged image) (λ r. record { answer = Err r; image = image })
     (λ g. delete_unless (delete_refusal g image slot) image
-    (record { answer = Count (extent_size g (label_at g image slot)); image = image_without g slot image }))
+    (record { answer = Ok (extent_size g (label_at g image slot)); image = image_without g slot image }))
 
-abbrev pub deleted : List ℕ → ℕ → Counted
+abbrev pub deleted : List ℕ → ℕ → Result ℕ Refusal
 deleted image slot = (deletion image slot).answer
 
 abbrev pub image_after_delete : List ℕ → ℕ → List ℕ

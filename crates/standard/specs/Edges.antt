@@ -1,6 +1,6 @@
 -- The edges of the rules, each computed: what a sentence of document 01 decides where two readings of it would differ.
 -- Assumes nothing.
-use Rattle.std.specs.Prelude.{ℕ, ◌-◌, ◌^◌, ◌≡◌, refl, Bool, true, false, length, take, replicate}
+use Rattle.std.specs.Prelude.{ℕ, ◌-◌, ◌^◌, ◌≡◌, refl, Bool, true, false, length, take, replicate, Some, None}
 use Prim.Native.String.{String}
 use mathlib.Core.List.{List, [], ◌∷◌, ◌++◌, map, flatten}
 use Rattle.standard.specs.Characters.{bytes, byte, one_of, same, every, a_set, is_digit, digit_value, number_from, spaces_or_number, is_hex, hex_value, hex_from, padded, shown_by, shown}
@@ -10,7 +10,6 @@ use Rattle.standard.specs.Layout.{k_at, kind_offset, body_offset, kind_at, first
 use Rattle.standard.specs.Slots.{is_label, is_deleted}
 use Rattle.standard.specs.Free.{in_extent, taken}
 use Rattle.standard.specs.Creating.{proposed, proposed_rules, proposal_fault, deleted_from, lowest_deleted, free_run, run_from, lowest_run, store_slot, image_created, image_without}
-use Rattle.standard.specs.declared.Run.TheVariants.{NoRun, RunAt}
 use Rattle.standard.specs.Judgement.{overlap}
 use Rattle.standard.specs.Pieces.{Block, lost_block, held, number4, role_of, look_f, look_v, look_s, look, walk, pieces, in_block, in_blocks, ahead}
 use Rattle.standard.specs.Records.{plain, salvage, File, FileRecord, took, ended, refused, gapped, first_met, step}
@@ -444,7 +443,7 @@ without1 = image_without small 1 index
 -- "the lowest deleted slot"; "the lowest free run of n consecutive data addresses", extents of deleted slots not counted; "29 no run"
 pub edges_room :
     (lowest_deleted small index ≡ 2)
-    × (map (lowest_run small index) (1 ∷ 8 ∷ 16 ∷ 17 ∷ 40 ∷ 41 ∷ (2 ^ 64 - 1) ∷ []) ≡ RunAt 24 ∷ RunAt 24 ∷ RunAt 24 ∷ NoRun ∷ NoRun ∷ NoRun ∷ NoRun ∷ [])
+    × (map (lowest_run small index) (1 ∷ 8 ∷ 16 ∷ 17 ∷ 40 ∷ 41 ∷ (2 ^ 64 - 1) ∷ []) ≡ Some 24 ∷ Some 24 ∷ Some 24 ∷ None ∷ None ∷ None ∷ None ∷ [])
     × (map (address_of small) (0 ∷ 24 ∷ 31 ∷ 39 ∷ []) ≡ map address_in (bytes "01001" ∷ bytes "04001" ∷ bytes "04008" ∷ bytes "05008" ∷ []))
     × (map (address_of volume) (7 ∷ 8 ∷ 16 ∷ []) ≡ map address_in (bytes "01008" ∷ bytes "01101" ∷ bytes "02001" ∷ []))
 unfolding same digit_value address_of address_in rank k_at kind_offset body_offset kind_at first_byte valid_mark incorrect_mark slot_count slot_ordinal label_offset label_at is_label is_deleted in_extent taken deleted_from lowest_deleted free_run run_from lowest_run
@@ -458,7 +457,7 @@ pub edges_delete :
     ++ (sector 16 "DDR1 OLD              00128 01001 05008                                   01004"
     ++ sector 0 "HDR1 LOG              00256 02001 03008V   2         010000056B           02005")))
     × (lowest_deleted small without1 ≡ 1)
-    × (map (lowest_run small without1) (8 ∷ 9 ∷ []) ≡ RunAt 0 ∷ RunAt 24 ∷ [])
+    × (map (lowest_run small without1) (8 ∷ 9 ∷ []) ≡ Some 0 ∷ Some 24 ∷ [])
 unfolding same digit_value address_in rank k_at kind_offset body_offset kind_at first_byte valid_mark incorrect_mark slot_count slot_ordinal label_offset label_at is_label is_deleted in_extent taken splice deleted_from lowest_deleted free_run run_from lowest_run store_slot
 edges_delete = (refl, refl, refl)
 

@@ -1,4 +1,5 @@
-// The values that document 01 speaks of, as the code and the contracts know them. Every type is plain data, passed by value.
+// The values that document 01 speaks of, as the code and the contracts know them. Every type is plain data, passed by value. A call that can be refused gives a
+// `Result` whose error is the refusal.
 // What the values mean is said in specs/, a file for each section of the document.
 #![tactic(auto)]
 
@@ -32,19 +33,12 @@ impl Refusal {
         ensures { result ≡ refuse_at number first second }
     {
         Refusal {
-            number: number,
-            first: first,
-            second: second,
+            number,
+            first,
+            second,
             third: 0,
         }
     }
-}
-
-// What a row of rules finds: nothing, or the first refusal.
-#[derive(Clone, Copy)]
-pub enum Checked {
-    Passed,
-    Stopped(Refusal),
 }
 
 // The numbers of a volume, by the document's letters. P is 128·2^k. A defective cylinder that is absent is 0.
@@ -60,55 +54,26 @@ pub struct Geometry {
     pub d2: u8,
 }
 
-// The judgement of a volume: one of the refusals 1 to 12, or its numbers.
+// What finding a file gives: the slot of its label, and the label's offset in the image.
 #[derive(Clone, Copy)]
-pub enum Judged {
-    Refused(Refusal),
-    Volume(Geometry),
-}
-
-// Finding a file: the slot of its label, and the label's offset in the image.
-#[derive(Clone, Copy)]
-pub enum Found {
-    Unfound(Refusal),
-    At(u64, u64),
-}
-
-// A count of blocks or of free records.
-#[derive(Clone, Copy)]
-pub enum Counted {
-    Uncounted(Refusal),
-    Count(u64),
+pub struct Found {
+    pub slot: u64,
+    pub offset: u64,
 }
 
 // Reading or salvaging a place: a record's length and the place behind it, a gap and the place behind it, or End and its place.
 #[derive(Clone, Copy)]
 pub enum Answer {
-    Unanswered(Refusal),
     Record(u64, Place),
     Gap(Place),
     End(Place),
 }
 
-// Writing a file: the number of blocks written.
+// What creating a file gives (request 2026-01): the slot of its label, and the start of its extent.
 #[derive(Clone, Copy)]
-pub enum Written {
-    Unwritten(Refusal),
-    Blocks(u64),
-}
-
-// Creating a file (request 2026-01): the slot of its label, and the start of its extent.
-#[derive(Clone, Copy)]
-pub enum Created {
-    Uncreated(Refusal),
-    Placed(u64, Address),
-}
-
-// A run of free addresses: the number, from 0, of its first address.
-#[derive(Clone, Copy)]
-pub enum Run {
-    NoRun,
-    RunAt(u64),
+pub struct Created {
+    pub slot: u64,
+    pub start: Address,
 }
 
 // An address of a physical record.
@@ -117,13 +82,6 @@ pub struct Address {
     pub cylinder: u64,
     pub side: u64,
     pub sector: u64,
-}
-
-// What five bytes of a label say: an address, legal on the volume or not; or they are not five digits.
-#[derive(Clone, Copy)]
-pub enum FiveDigits {
-    NotDigits,
-    Digits(Address),
 }
 
 impl Address {
@@ -147,9 +105,9 @@ impl Address {
         let c = self.cylinder;
         let s = self.side;
         let n = self.sector;
-        let cylinders = wide(g.L);
-        let sides = wide(g.S);
-        let sectors = wide(g.D);
+        let cylinders = u64::from(g.L);
+        let sides = u64::from(g.S);
+        let sectors = u64::from(g.D);
         if n < sectors {
             return Address {
                 cylinder: c,
@@ -174,17 +132,18 @@ impl Address {
         self
     }
 
-    // Reading five digits, the first five bytes of a field. (The length is asked once, so that no later byte need ask it.)
-    pub fn read(field: &[u8]) -> FiveDigits
+    // Reading five digits, the first five bytes of a field: the address that they are, legal on the volume or not. (The length is asked once, so that no later
+    // byte need ask it.)
+    pub fn read(field: &[u8]) -> Option<Address>
         ensures { result ≡ five_read field.now }
     {
         if field.len() < 5 {
-            return FiveDigits::NotDigits;
+            return None;
         }
         if !five_digits(field) {
-            return FiveDigits::NotDigits;
+            return None;
         }
-        FiveDigits::Digits(Address::spelled(field))
+        Some(Address::spelled(field))
     }
 
     // The address that five bytes spell, digits or not. Of any bytes its numbers stay small, so that layers above can reckon with them.
@@ -227,7 +186,7 @@ impl Place {
     {
         Place {
             block: self.block,
-            offset: offset,
+            offset,
             mark: false,
         }
     }
@@ -243,13 +202,13 @@ impl Place {
             return Place {
                 block: b + 1,
                 offset: 0,
-                mark: mark,
+                mark,
             };
         }
         Place {
             block: b,
             offset: 0,
-            mark: mark,
+            mark,
         }
     }
 
@@ -265,21 +224,11 @@ impl Place {
     }
 }
 
-// What every layer above needs in small. A byte as a number.
-pub fn wide(b: u8) -> u64
-    ensures { (result ≡ b) × (result < 256) }
-{
-    b as u64
-}
-
-// The byte at i, or 0 where there is none.
+// What every layer above needs in small. The byte at i, or 0 where there is none.
 pub fn byte_at(s: &[u8], i: usize) -> u64
     ensures { (result ≡ get_or s.now i 0) × (result < 256) }
 {
-    if i < s.len() {
-        return wide(s[i]);
-    }
-    0
+    s.get(i).copied().map_or(0, u64::from)
 }
 
 pub fn is_digit(c: u64) -> bool

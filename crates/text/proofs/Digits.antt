@@ -31,6 +31,17 @@ pub without_none : (n : ℕ) → without 0 n ≡ n
 unfolding without
 without_none n = refl
 
+-- a digit more taken off the rest of them
+pub without_next : (digits i n m : ℕ) → i < digits → without digits n ≡ without (digits - i) m → without digits n ≡ without (digits - (i + 1)) (m / 10)
+without_next digits i n m l h =
+    let e : digits - i ≡ suc (digits - (i + 1)) = omega arith in
+    h ∙ ap (λ (k : ℕ). without k m) e ∙ without_more (digits - (i + 1)) m
+
+pub without_all : (digits i n m : ℕ) → digits ≤ i → without digits n ≡ without (digits - i) m → m ≡ without digits n
+without_all digits i n m l h =
+    let z : digits - i ≡ 0 = omega arith in
+    sym (h ∙ ap (λ (k : ℕ). without k m) z ∙ without_none m)
+
 pub padded_none : (n : ℕ) → padded 0 n ≡ []
 unfolding padded
 padded_none n = refl

@@ -1,6 +1,7 @@
 -- The free records: the sizes of the extents, summed up slot by slot, taken from all data addresses.
 -- Assumes nothing.
-use Prim.Native.Nat.{ℕ, suc, ◌+◌, ◌-◌, ◌*◌, ◌≤◌}
+use Rattle.std.specs.Prelude.{Ok, Err}
+use Prim.Native.Nat.{ℕ, suc, ◌+◌, ◌-◌, ◌≤◌}
 use mathlib.Core.Path.{◌≡◌, refl, sym, ap, ◌∙◌}
 use mathlib.Core.Bool.{Bool, true, false, cond}
 use mathlib.Core.List.{List}
@@ -15,8 +16,6 @@ use Rattle.standard.specs.Judgement.{judged}
 use Rattle.standard.specs.Free.{free_records, free_count}
 use Rattle.standard.specs.declared.Geometry.{Geometry}
 use Rattle.standard.specs.declared.Refusal.{Refusal}
-use Rattle.standard.specs.declared.Judged.TheVariants.{Refused, Volume}
-use Rattle.standard.specs.declared.Counted.TheVariants.{Uncounted, Count}
 use Rattle.promises.specs.Volumes.FreeLaws.{extents_below, free_counted, free_is}
 use Rattle.index.specs.Extents.{start_in, end_in}
 
@@ -42,21 +41,17 @@ module _ (g : Geometry) (image : List ℕ) where
   unfolding extents_below
   extents_more i = rw (add-one i)
 
--- all data addresses, as the code counts them
-pub all_counted : (g : Geometry) (l s d n a : ℕ) → l ≡ g.L → s ≡ g.S → d ≡ g.D → n ≡ l * s → a ≡ n * d → a ≡ address_count g
-all_counted g l s d n a hl hs hd hn ha = cc
-
 -- the answer
-module _ (image : List ℕ) (g : Geometry) (j : judged image ≡ Volume g) where
+module _ (image : List ℕ) (g : Geometry) (j : judged image ≡ Ok g) where
   pub used_most : (a u : ℕ) → a ≡ address_count g → u ≡ extents_below g image (slot_count g) → u ≤ a
   used_most a u p q = omega (arith, free_is image g j)
 
   pub free_left : (a u : ℕ) → a ≡ address_count g → u ≡ extents_below g image (slot_count g) → a - u ≡ free_records g image
   free_left a u p q = omega (arith, free_is image g j)
 
-  pub free_answer : (n : ℕ) → n ≡ free_records g image → Count n ≡ free_count image
-  free_answer n e = ap Count e ∙ sym (free_counted image g j)
+  pub free_answer : (n : ℕ) → n ≡ free_records g image → Ok n ≡ free_count image
+  free_answer n e = ap Ok e ∙ sym (free_counted image g j)
 
-pub free_refused : (image : List ℕ) (r : Refusal) → judged image ≡ Refused r → Uncounted r ≡ free_count image
+pub free_refused : (image : List ℕ) (r : Refusal) → judged image ≡ Err r → Err r ≡ free_count image
 unfolding free_count
 free_refused image r j = rw j

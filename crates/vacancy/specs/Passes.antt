@@ -1,14 +1,14 @@
--- A search for n free addresses in a row, by two rows that hold where the slots' extents begin and end: it stands at a start, and goes on behind each extent that
--- has one of the n addresses from there on.
+-- A search for n free addresses in a row, by the slots' extents: it stands at a start, and goes on behind each extent that has one of the n addresses from there
+-- on.
 -- Assumes nothing.
-use Rattle.std.specs.Prelude.{ℕ, zero, suc, ◌+◌, cond, List, get_or, ltb, leb}
+use Rattle.std.specs.Prelude.{ℕ, ◌+◌, cond, List, [], ◌∷◌, ltb, leb}
+use Rattle.index.specs.declared.Extent.{Extent}
 
 -- one extent
-unfoldable pub past_one : List ℕ → List ℕ → ℕ → ℕ → ℕ → ℕ
-past_one starts ends n i start =
-    cond (ltb (get_or ends i 0) start) start (cond (leb (start + n) (get_or starts i 0)) start (get_or ends i 0 + 1))
+unfoldable pub past_one : ℕ → Extent → ℕ → ℕ
+past_one n e start = cond (ltb e.end start) start (cond (leb (start + n) e.start) start (e.end + 1))
 
--- one pass over `left` of them, from the i-th on
-unfoldable pub past_all : List ℕ → List ℕ → ℕ → ℕ → ℕ → ℕ → ℕ
-past_all starts ends n zero i start = start
-past_all starts ends n (suc left) i start = past_all starts ends n left (i + 1) (past_one starts ends n i start)
+-- one pass over them
+unfoldable pub past_all : ℕ → List Extent → ℕ → ℕ
+past_all n [] start = start
+past_all n (e ∷ rest) start = past_all n rest (past_one n e start)

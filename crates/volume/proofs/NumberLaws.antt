@@ -1,5 +1,6 @@
 -- The numbers of VOL1 bound the slots and the addresses, and refusals 5 and 6 do not ask for defective cylinders.
 -- Assumes nothing.
+use Rattle.std.specs.Prelude.{Ok}
 use Prim.Native.Nat.{ℕ, zero, suc, ◌+◌, ◌-◌, ◌*◌, ◌<◌, ◌≤◌}
 use mathlib.Core.Path.{◌≡◌, refl, ap, ◌∙◌}
 use mathlib.Core.Bool.{Bool, true, false, cond}
@@ -12,7 +13,6 @@ use Rattle.standard.specs.Layout.{index_sectors, sector_count, image_length, slo
 use Rattle.standard.specs.Addresses.{address_count}
 use Rattle.standard.specs.Judgement.{numbers_in, judged, legal_kind, kinds_from, refusal6}
 use Rattle.standard.specs.declared.Geometry.{Geometry}
-use Rattle.standard.specs.declared.Judged.TheVariants.{Volume}
 use Rattle.promises.specs.Volumes.Judging.{accepted}
 use Rattle.promises.specs.Volumes.VolumeNumbers.{Numbers, numbers_of_lem, slot_in_index}
 use Rattle.promises.specs.Volumes.AcceptedLaws.{image_length_lem}
@@ -70,5 +70,5 @@ module _ (g : Geometry) (n : Numbers g) where
   whole_of image e = record { few = slots_few; indexed = slots_indexed; inside = omega (arith, e); addresses = addresses_few }
 
 -- WHAT AN ACCEPTED VOLUME GIVES to the code that reads its slots
-pub slotted_of : (image : List ℕ) (g : Geometry) → judged image ≡ Volume g → Slotted g image
+pub slotted_of : (image : List ℕ) (g : Geometry) → judged image ≡ Ok g → Slotted g image
 slotted_of image g j = record { whole = whole_of g (numbers_of_lem image g j) image (image_length_lem image g j); passed = (accepted image g j).slots }

@@ -1,18 +1,11 @@
 -- The judgement in stages.
 -- Assumes nothing.
-use Rattle.std.specs.Prelude.{ℕ, List, drop}
-use Rattle.standard.specs.Refusals.{refuse, in_order}
+use Rattle.std.specs.Prelude.{ℕ, List, drop, Result}
+use Rattle.standard.specs.Refusals.{in_order}
 use Rattle.standard.specs.Judgement.{volume_list, verdict}
 use Rattle.standard.specs.declared.Geometry.{Geometry}
 use Rattle.standard.specs.declared.Refusal.{Refusal}
-use Rattle.standard.specs.declared.Judged.{Judged}
-use Rattle.standard.specs.declared.Judged.TheVariants.{Refused, Volume}
 
 -- "Volume order is 1 to 12": the judgement behind the first n of its ten stages
-unfoldable pub judged_from : ℕ → List ℕ → Geometry → Judged
+unfoldable pub judged_from : ℕ → List ℕ → Geometry → Result Geometry Refusal
 judged_from n image g = verdict (in_order (drop n (volume_list image g))) g
-
--- the refusal of a refused volume
-abbrev pub refusal_of : Judged → Refusal
-refusal_of (Refused r) = r
-refusal_of (Volume g) = refuse 0 0

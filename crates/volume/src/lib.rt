@@ -1,4 +1,4 @@
-// The judgement of a volume, refusals 1 to 12, and what a refused volume says to a file call. What a customer calls has no `requires`.
+// The judgement of a volume, refusals 1 to 12. What a customer calls has no `requires`.
 #![tactic(auto)]
 
 ghost use Rattle.std.specs.Prelude.{◌≡◌, ◌≤◌, length};
@@ -8,103 +8,78 @@ ghost use Rattle.standard.specs.Layout.{vol1_of, image_length};
 ghost use Rattle.standard.specs.Judgement.{judged, volume_of};
 ghost use Rattle.numbers.specs.Numbers.{bare};
 ghost use Rattle.index.specs.Whole.{Whole};
-ghost use Rattle.volume.specs.Stages.{judged_from, refusal_of};
+ghost use Rattle.volume.specs.Stages.{judged_from};
 
 use index::{named, shared, slots};
 use layout::{image_length, index_body, index_kind, kinds};
 use numbers::{ermap_fault, vol1_fault, vol1_numbers, with_defects};
-use standard::{Checked, Geometry, Judged, Refusal, wide};
+use standard::{Geometry, Refusal};
 
 // 8 to 12.
-fn judge_slots(g: Geometry, image: &[u8]) -> Judged
+fn judge_slots(g: Geometry, image: &[u8]) -> Result<Geometry, Refusal>
     requires { Whole g image.now }
     ensures { result ≡ judged_from 7 image.now g }
 {
-    let c = slots(g, image);
-    if let Checked::Stopped(r) = c {
-        return Judged::Refused(r);
-    }
-    let d = shared(g, image);
-    if let Checked::Stopped(r) = d {
-        return Judged::Refused(r);
-    }
-    let e = named(g, image);
-    if let Checked::Stopped(r) = e {
-        return Judged::Refused(r);
-    }
-    Judged::Volume(g)
+    slots(g, image)?;
+    shared(g, image)?;
+    named(g, image)?;
+    Ok(g)
 }
 
 // 7, and what is left with the numbers that ERMAP gives.
-fn judge_defects(g: Geometry, image: &[u8]) -> Judged
+fn judge_defects(g: Geometry, image: &[u8]) -> Result<Geometry, Refusal>
     requires { (903 ≤ length image.now) × (lowest_fault (vol1_rules (vol1_of image.now)) ≡ 0) × (g ≡ bare (vol1_of image.now)) × (length image.now ≡ image_length g) }
     ensures { result ≡ judged_from 6 image.now (volume_of image.now) }
 {
     let e = index_body(image, 5);
-    let fault = ermap_fault(wide(g.L), e);
-    if 0 < fault {
-        return Judged::Refused(Refusal::at(7, fault));
+    if let Some(fault) = ermap_fault(u64::from(g.L), e) {
+        return Err(Refusal::at(7, fault));
     }
     judge_slots(with_defects(g, e), image)
 }
 
 // 5 and 6, which do not ask for defective cylinders.
-fn judge_sectors(g: Geometry, image: &[u8]) -> Judged
+fn judge_sectors(g: Geometry, image: &[u8]) -> Result<Geometry, Refusal>
     requires { (903 ≤ length image.now) × (lowest_fault (vol1_rules (vol1_of image.now)) ≡ 0) × (g ≡ bare (vol1_of image.now)) }
     ensures { result ≡ judged_from 4 image.now (volume_of image.now) }
 {
     let n = image.len() as u64;
     let m = image_length(g);
     if n != m {
-        return Judged::Refused(Refusal::at(5, 0));
+        return Err(Refusal::at(5, 0));
     }
-    let c = kinds(g, image);
-    if let Checked::Stopped(r) = c {
-        return Judged::Refused(r);
-    }
+    kinds(g, image)?;
     judge_defects(g, image)
 }
 
 // 3 and 4, and the numbers of VOL1.
-fn judge_vol1(image: &[u8]) -> Judged
+fn judge_vol1(image: &[u8]) -> Result<Geometry, Refusal>
     requires { 903 ≤ length image.now }
     ensures { result ≡ judged_from 2 image.now (volume_of image.now) }
 {
     let v = index_body(image, 7);
-    let fault = vol1_fault(v);
-    if 0 < fault {
-        return Judged::Refused(Refusal::at(3, fault));
+    if let Some(fault) = vol1_fault(v) {
+        return Err(Refusal::at(3, fault));
     }
-    let access = wide(v[10]);
+    let access = u64::from(v[10]);
     if access != 32 {
-        return Judged::Refused(Refusal::at(4, 11));
+        return Err(Refusal::at(4, 11));
     }
     judge_sectors(vol1_numbers(v), image)
 }
 
-// "Volume order is 1 to 12"
-pub fn judge(image: &[u8]) -> Judged
+// "Volume order is 1 to 12": the first of these refusals, or the volume's numbers. ("A file call stops at the first refusal of the volume": by `?`.)
+pub fn judge(image: &[u8]) -> Result<Geometry, Refusal>
     ensures { result ≡ judged image.now }
 {
     if image.len() < 903 {
-        return Judged::Refused(Refusal::at(1, 0));
+        return Err(Refusal::at(1, 0));
     }
     if index_kind(image, 5) != 0 {
-        return Judged::Refused(Refusal::at(2, 5));
+        return Err(Refusal::at(2, 5));
     }
     if index_kind(image, 7) != 0 {
-        return Judged::Refused(Refusal::at(2, 7));
+        return Err(Refusal::at(2, 7));
     }
     judge_vol1(image)
-}
-
-// What stops a file call: "A file call stops at the first refusal of the volume." (Inner: every file call asks it, of a
-// refused volume alone. There is no refusal 0: it stands for an accepted one.)
-pub fn refusal_of(j: Judged) -> Refusal
-    ensures { result ≡ refusal_of j }
-{
-    let Judged::Refused(r) = j else {
-        return Refusal::at(0, 0);
-    };
-    r
 }

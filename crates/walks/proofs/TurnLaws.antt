@@ -1,21 +1,23 @@
 -- One turn of a reader, place by place: what it meets at an offset of a block, in numbers and in bytes.
 -- Assumes nothing.
-use Prim.Native.Nat.{ℕ, zero, suc, ◌+◌}
+use Prim.Native.Nat.{ℕ, suc, ◌+◌}
 use mathlib.Core.Path.{◌≡◌, refl, sym, ap, ◌∙◌}
 use mathlib.Core.Bool.{Bool, true, false, cond}
-use mathlib.Core.Logic.{◌⊎◌, inl, inr}
 use mathlib.Core.List.{List, [], ◌∷◌, ◌++◌}
 use lib.ListN.{length, drop}
 use Rattle.standard.specs.Labels.{Params}
-use Rattle.standard.specs.Pieces.{Block, lost_block, held, Role, Piece, blank, broken, piece, is_fill, look}
+use Rattle.standard.specs.Pieces.{Block, lost_block, held, Piece, blank, broken, piece, is_fill, look}
 use Rattle.standard.specs.Records.{Mode, State, took, refused, refuse21, Move as MoveOf, at_end, at_lost, after_move}
+use Rattle.promises.specs.Ground.Basics.{never}
 use Rattle.promises.specs.Reading.StepLaw.{reading, behind, on_piece, on_blocks, reading_law}
-use Rattle.pieces.specs.Looks.{role_for}
+use Rattle.blocks.specs.Roles.{role_for, completes_by}
+use Rattle.blocks.specs.declared.Role.{Role}
+use Rattle.blocks.specs.declared.Role.TheVariants.{Whole, First, Middle, Last}
 use Rattle.walks.specs.Stands.{length_of, state_with, limit_of, meet_by, move_with}
 use Rattle.walks.specs.declared.Stand.{Stand}
 use Rattle.walks.specs.declared.Move.{Move}
 use Rattle.walks.specs.declared.Move.TheVariants.{Deliver, Carry, Breach}
-use Rattle.walks.proofs.StandLaws.{role_early, role_late, meet_with}
+use Rattle.walks.proofs.StandLaws.{meet_with}
 
 module _ (m : Mode) (p : Params) (bs : List Block) (b o : ℕ) where
   pub turn_end : (st : State) → drop b bs ≡ [] → reading m p bs b o st ≡ at_end st
@@ -34,46 +36,51 @@ module _ (m : Mode) (p : Params) (bs : List Block) (b o : ℕ) where
     pub turn_broken : (st : State) → look p o (drop o c) ≡ broken → reading m p bs b o st ≡ refused (refuse21 b o)
     turn_broken st l = turn_piece st broken l
 
-    module _ (digit size : ℕ) (acc body : List ℕ) (s : Stand) (l : look p o (drop o c) ≡ piece (role_for digit) body size) (n : length acc ≡ length_of s) where
-      turn_part : (mv : Move) → mv ≡ meet_by (limit_of p) s digit (length body) b
-          → reading m p bs b o (state_with acc s) ≡ after_move (move_with (acc ++ body) mv) b o (o + size) (λ st. behind m p bs b (o + size) c (role_for digit) st)
+    module _ (k : Role) (size : ℕ) (acc body : List ℕ) (s : Stand) (l : look p o (drop o c) ≡ piece (role_for k) body size) (n : length acc ≡ length_of s) where
+      turn_part : (mv : Move) → mv ≡ meet_by (limit_of p) s k (length body) b
+          → reading m p bs b o (state_with acc s) ≡ after_move (move_with (acc ++ body) mv) b o (o + size) (λ st. behind m p bs b (o + size) c (role_for k) st)
       turn_part mv h =
-          turn_piece (state_with acc s) (piece (role_for digit) body size) l
-          ∙ ap (λ (v : MoveOf). after_move v b o (o + size) (λ st. behind m p bs b (o + size) c (role_for digit) st))
-          (meet_with p acc body b s digit n ∙ ap (move_with (acc ++ body)) (sym h))
+          turn_piece (state_with acc s) (piece (role_for k) body size) l
+          ∙ ap (λ (v : MoveOf). after_move v b o (o + size) (λ st. behind m p bs b (o + size) c (role_for k) st))
+          (meet_with p acc body b s k n ∙ ap (move_with (acc ++ body)) (sym h))
 
-      pub turn_takes : (k f : ℕ) → Deliver k f ≡ meet_by (limit_of p) s digit (length body) b
+      pub turn_takes : (n f : ℕ) → Deliver n f ≡ meet_by (limit_of p) s k (length body) b
           → reading m p bs b o (state_with acc s) ≡ took (record { body = acc ++ body; first_block = f; last_block = b }) (record { block = b; offset = o + size; mark = false })
-      turn_takes k f h = turn_part (Deliver k f) h
+      turn_takes n f h = turn_part (Deliver n f) h
 
-      pub turn_breach : Breach ≡ meet_by (limit_of p) s digit (length body) b → reading m p bs b o (state_with acc s) ≡ refused (refuse21 b o)
+      pub turn_breach : Breach ≡ meet_by (limit_of p) s k (length body) b → reading m p bs b o (state_with acc s) ≡ refused (refuse21 b o)
       turn_breach h = turn_part Breach h
 
       -- a 0 or 3 is followed by what stands there
-      pub turn_on : (t : Stand) → Carry t ≡ meet_by (limit_of p) s digit (length body) b → (digit ≡ 1 → ⊥) → (digit ≡ 2 → ⊥)
+      pub turn_on : (t : Stand) → Carry t ≡ meet_by (limit_of p) s k (length body) b → completes_by k ≡ true
           → reading m p bs b o (state_with acc s) ≡ reading m p bs b (o + size) (state_with (acc ++ body) t)
-      turn_on t h x y = turn_part (Carry t) h ∙ go digit x y
+      turn_on t h x = turn_part (Carry t) h ∙ go k x
         where
-          go : (d : ℕ) → (d ≡ 1 → ⊥) → (d ≡ 2 → ⊥)
+          go : (d : Role) → completes_by d ≡ true
               → behind m p bs b (o + size) c (role_for d) (state_with (acc ++ body) t) ≡ reading m p bs b (o + size) (state_with (acc ++ body) t)
-          go zero x y = rw role_early.0
-          go (suc zero) x y = absurd (x refl)
-          go (suc (suc zero)) x y = absurd (y refl)
-          go (suc (suc (suc d))) x y = rw (role_late d)
+          go Whole x = refl
+          go First x = never (cc)
+          go Middle x = never (cc)
+          go Last x = refl
 
       -- "After 1 or 2 the rest of the block is fill"
-      turn_rest : (t : Stand) → Carry t ≡ meet_by (limit_of p) s digit (length body) b → (digit ≡ 1) ⊎ (digit ≡ 2)
+      turn_rest : (t : Stand) → Carry t ≡ meet_by (limit_of p) s k (length body) b → completes_by k ≡ false
           → reading m p bs b o (state_with acc s)
           ≡ cond (is_fill (drop (o + size) c)) (reading m p bs (suc b) 0 (state_with (acc ++ body) t)) (refused (refuse21 b (o + size)))
-      turn_rest t h (inl e) =
-          turn_part (Carry t) h ∙ ap (λ (r : Role). behind m p bs b (o + size) c r (state_with (acc ++ body) t)) (ap role_for e ∙ role_early.1)
-      turn_rest t h (inr e) =
-          turn_part (Carry t) h ∙ ap (λ (r : Role). behind m p bs b (o + size) c r (state_with (acc ++ body) t)) (ap role_for e ∙ role_early.2)
+      turn_rest t h x = turn_part (Carry t) h ∙ go k x
+        where
+          go : (d : Role) → completes_by d ≡ false
+              → behind m p bs b (o + size) c (role_for d) (state_with (acc ++ body) t)
+              ≡ cond (is_fill (drop (o + size) c)) (reading m p bs (suc b) 0 (state_with (acc ++ body) t)) (refused (refuse21 b (o + size)))
+          go Whole x = never (cc)
+          go First x = refl
+          go Middle x = refl
+          go Last x = never (cc)
 
-      pub turn_next : (t : Stand) → Carry t ≡ meet_by (limit_of p) s digit (length body) b → (digit ≡ 1) ⊎ (digit ≡ 2) → is_fill (drop (o + size) c) ≡ true
+      pub turn_next : (t : Stand) → Carry t ≡ meet_by (limit_of p) s k (length body) b → completes_by k ≡ false → is_fill (drop (o + size) c) ≡ true
           → reading m p bs b o (state_with acc s) ≡ reading m p bs (suc b) 0 (state_with (acc ++ body) t)
       turn_next t h d i = turn_rest t h d ∙ ap (λ (z : Bool). cond z (reading m p bs (suc b) 0 (state_with (acc ++ body) t)) (refused (refuse21 b (o + size)))) i
 
-      pub turn_stops : (t : Stand) → Carry t ≡ meet_by (limit_of p) s digit (length body) b → (digit ≡ 1) ⊎ (digit ≡ 2) → is_fill (drop (o + size) c) ≡ false
+      pub turn_stops : (t : Stand) → Carry t ≡ meet_by (limit_of p) s k (length body) b → completes_by k ≡ false → is_fill (drop (o + size) c) ≡ false
           → reading m p bs b o (state_with acc s) ≡ refused (refuse21 b (o + size))
       turn_stops t h d i = turn_rest t h d ∙ ap (λ (z : Bool). cond z (reading m p bs (suc b) 0 (state_with (acc ++ body) t)) (refused (refuse21 b (o + size)))) i

@@ -1,9 +1,9 @@
 -- A walk's block in the file, and what each exit of a turn says.
 -- Assumes nothing.
+use Rattle.std.specs.Prelude.{Result, Ok, Err}
 use Prim.Native.Nat.{ℕ, suc, ◌+◌, ◌-◌, ◌*◌, ◌<◌, ◌≤◌}
 use mathlib.Core.Path.{◌≡◌, refl, sym, ap, subst, ◌∙◌}
-use mathlib.Core.Bool.{Bool, true, false}
-use mathlib.Core.Logic.{◌⊎◌}
+use mathlib.Core.Bool.{true, false}
 use mathlib.Core.List.{List, [], ◌∷◌, ◌++◌, append-nil}
 use lib.ListN.{length, take, drop, length-take, length-drop}
 use lib.Seq.{take-take}
@@ -26,7 +26,11 @@ use Rattle.opening.proofs.OpenedLaws.{Facts, facts, size_is}
 use Rattle.blocks.specs.Streams.{stream}
 use Rattle.blocks.proofs.StreamLaws.{standing_legal, stream_in, stream_long}
 use Rattle.blocks.proofs.BlockLaws.{block_at, rest_is, drop_take}
-use Rattle.pieces.specs.Looks.{role_for, head_of}
+use Rattle.blocks.specs.Roles.{role_for, completes_by}
+use Rattle.blocks.specs.declared.Role.{Role}
+use Rattle.pieces.specs.Looks.{head_of}
+use Rattle.walks.specs.declared.Mode.{Mode}
+use Rattle.walks.specs.declared.Mode.TheVariants.{Plain, Salvage}
 use Rattle.pieces.specs.declared.Seen.TheVariants.{Blank, Broken}
 use Rattle.pieces.proofs.LookLaws.{seen_blank, seen_broken, seen_part}
 use Rattle.walks.specs.Stands.{length_of, state_with, limit_of, meet_by, met_with, lost_by}
@@ -35,10 +39,11 @@ use Rattle.walks.specs.declared.Stand.{Stand}
 use Rattle.walks.specs.declared.Move.{Move}
 use Rattle.walks.specs.declared.Move.TheVariants.{Deliver, Carry, Breach}
 use Rattle.walks.specs.declared.Measured.{Measured}
-use Rattle.walks.specs.declared.Measured.TheVariants.{Took, Failed}
+use Rattle.walks.specs.declared.Measured.TheVariants.{Took}
 use Rattle.walks.specs.declared.Walk.{Walk}
 use Rattle.walks.specs.declared.Turn.TheVariants.{Done, On}
 use Rattle.walks.proofs.StandLaws.{deliver_says, carry_length, carry_state}
+use Rattle.standard.specs.declared.Refusal.{Refusal}
 use Rattle.walks.proofs.TurnLaws.{turn_lost, turn_blank, turn_broken, turn_takes, turn_breach, turn_on, turn_next, turn_stops}
 
 pub size_most : (f : FileNumbers) (b : ℕ) → size_at f b ≤ f.B
@@ -147,27 +152,27 @@ module _ (image : List ℕ) (f : FileNumbers) (w : Walk) (e : Entered image f w)
   look_is = rw (params_are.0, params_are.1, params_are.2, rest_of o)
 
   -- what a reader meets at another place
-  abbrev met_at : Bool → ℕ → ℕ → State → Met
+  abbrev met_at : Mode → ℕ → ℕ → State → Met
   met_at s i j st = first_met (mode_of s) (file_of image f).params (ahead (file_of image f).params (file_of image f).blocks i j) st
 
-  met_at_lem : (s : Bool) (v : Walk) (i j : ℕ) (t : Stand) (body : List ℕ) → v.place.block ≡ i → v.place.offset ≡ j → v.stand ≡ t
+  met_at_lem : (s : Mode) (v : Walk) (i j : ℕ) (t : Stand) (body : List ℕ) → v.place.block ≡ i → v.place.offset ≡ j → v.stand ≡ t
       → met_at s i j (state_with body t) ≡ met_from image f s v body
   met_at_lem s v i j t body p q r = rw (p, q, r)
 
   -- THE EXITS OF A TURN
-  gap_is : (i : ℕ) → ◌≡◌ {A = Met} (at_lost (mode_of true) i) (met_with [] (lost_by true i))
+  gap_is : (i : ℕ) → ◌≡◌ {A = Met} (at_lost (mode_of Salvage) i) (met_with [] (lost_by Salvage i))
   gap_is i = let q : suc i - 1 ≡ i = omega arith in rw q
 
-  pub turned_lost : (s : Bool) (x : Measured) → any_failed f.g image records ≡ true → x ≡ lost_by s b → Turned image f s w (Done x)
-  turned_lost s x h q = subst (λ (y : Measured). Turned image f s w (Done y)) (sym q) (go s)
+  pub turned_lost : (s : Mode) (x : Result Measured Refusal) → any_failed f.g image records ≡ true → x ≡ lost_by s b → Turned image f s w (Done x)
+  turned_lost s x h q = subst (λ (y : Result Measured Refusal). Turned image f s w (Done y)) (sym q) (go s)
     where
-      go : (s : Bool) → Turned image f s w (Done (lost_by s b))
-      go true = (λ body n. turn_lost (mode_of true) (file_of image f).params (file_of image f).blocks b o (state_with body w.stand) (size_at f b) tail (lost_is h) ∙ gap_is b, tt)
-      go false = (λ body n. turn_lost (mode_of false) (file_of image f).params (file_of image f).blocks b o (state_with body w.stand) (size_at f b) tail (lost_is h), tt)
+      go : (s : Mode) → Turned image f s w (Done (lost_by s b))
+      go Salvage = (λ body n. turn_lost (mode_of Salvage) (file_of image f).params (file_of image f).blocks b o (state_with body w.stand) (size_at f b) tail (lost_is h) ∙ gap_is b, tt)
+      go Plain = (λ body n. turn_lost (mode_of Plain) (file_of image f).params (file_of image f).blocks b o (state_with body w.stand) (size_at f b) tail (lost_is h), tt)
 
-  pub turned_broken : (s : Bool) (x : Measured) → NotLost image f w → Broken ≡ seen_at image f w → x ≡ Failed (refuse21 b o) → Turned image f s w (Done x)
+  pub turned_broken : (s : Mode) (x : Result Measured Refusal) → NotLost image f w → Broken ≡ seen_at image f w → x ≡ Err (refuse21 b o) → Turned image f s w (Done x)
   turned_broken s x h l q =
-      subst (λ (y : Measured). Turned image f s w (Done y)) (sym q) (
+      subst (λ (y : Result Measured Refusal). Turned image f s w (Done y)) (sym q) (
         λ body n. turn_broken (mode_of s) (file_of image f).params (file_of image f).blocks b o content tail (held_is h) (state_with body w.stand) (look_is ∙ seen_broken looked l),
         tt,
       )
@@ -176,7 +181,7 @@ module _ (image : List ℕ) (f : FileNumbers) (w : Walk) (e : Entered image f w)
   further : (v : Walk) → v.place.block ≡ b + 1 → v.place.offset ≡ 0 → to_go f v < to_go f w
   further v p q = rw (p, q) (omega (arith, e.1.2, e.2))
 
-  pub turned_blank : (s : Bool) (v : Walk) → NotLost image f w → Blank ≡ seen_at image f w → Walking image f v → v.place.block ≡ b + 1 → v.place.offset ≡ 0
+  pub turned_blank : (s : Mode) (v : Walk) → NotLost image f w → Blank ≡ seen_at image f w → Walking image f v → v.place.block ≡ b + 1 → v.place.offset ≡ 0
       → v.stand ≡ w.stand → Turned image f s w (On v)
   turned_blank s v h l y p q r =
       let z : b + 1 ≡ suc b = omega arith in
@@ -192,26 +197,26 @@ module _ (image : List ℕ) (f : FileNumbers) (w : Walk) (e : Entered image f w)
       )
 
   -- A RECORD OR SEGMENT
-  module _ (digit size : ℕ) (part : PartAt image f w digit size) where
+  module _ (role : Role) (size : ℕ) (part : PartAt image f w role size) where
     abbrev head : ℕ
     head = head_of f.form
 
     abbrev segment : List ℕ
     segment = take (size - head) (drop head (rest_at image f w o))
 
-    said : (looked ≡ piece (role_for digit) segment size) × (digit < 4) × (head ≤ size) × (1 ≤ size) × (size ≤ length (rest_at image f w o))
-    said = let x = seen_part f.form f.R f.blocked o (rest_at image f w o) digit size part.1 in (x.0, x.1, x.2, x.3, x.4)
+    said : (looked ≡ piece (role_for role) segment size) × (head ≤ size) × (1 ≤ size) × (size ≤ length (rest_at image f w o))
+    said = let x = seen_part f.form f.R f.blocked o (rest_at image f w o) role size part.1 in (x.0, x.1, x.2, x.3)
 
     inside : size ≤ size_at f b - o
-    inside = omega (arith, said.4, length-take (size_at f b - o) (stream f.g image w.at o))
+    inside = omega (arith, said.3, length-take (size_at f b - o) (stream f.g image w.at o))
 
     there : size ≤ length (stream f.g image w.at o)
-    there = omega (arith, said.4, length-take (size_at f b - o) (stream f.g image w.at o))
+    there = omega (arith, said.3, length-take (size_at f b - o) (stream f.g image w.at o))
 
     segment_is : segment ≡ take (size - head) (body_ahead image f w)
     segment_is =
         ap (take (size - head)) (drop_take head (size_at f b - o) (stream f.g image w.at o))
-        ∙ take-take (size - head) (size_at f b - o - head) (drop head (stream f.g image w.at o)) (omega (arith, said.2, inside))
+        ∙ take-take (size - head) (size_at f b - o - head) (drop head (stream f.g image w.at o)) (omega (arith, said.1, inside))
         ∙ ap (take (size - head)) (sym (stream_in f.g image w.at o head))
 
     ahead_long : size - head ≤ length (body_ahead image f w)
@@ -224,44 +229,44 @@ module _ (image : List ℕ) (f : FileNumbers) (w : Walk) (e : Entered image f w)
     small = omega (arith, inside, size_most f b, k.B-low)
 
     pub end_low : o + size < 65536
-    end_low = omega (arith, inside, said.3, size_most f b, k.B-low)
+    end_low = omega (arith, inside, said.2, size_most f b, k.B-low)
 
-    met_by : (mv : Move) → mv ≡ meet_by (limit_by f) w.stand digit (size - head) b → mv ≡ meet_by (limit_of (file_of image f).params) w.stand digit (length segment) b
-    met_by mv h = h ∙ (ap (λ (i : ℕ). meet_by i w.stand digit (size - head) b) (sym limit_is) ∙ ap (λ (i : ℕ). meet_by (limit_of (file_of image f).params) w.stand digit i b) (sym segment_long))
+    met_by : (mv : Move) → mv ≡ meet_by (limit_by f) w.stand role (size - head) b → mv ≡ meet_by (limit_of (file_of image f).params) w.stand role (length segment) b
+    met_by mv h = h ∙ (ap (λ (i : ℕ). meet_by i w.stand role (size - head) b) (sym limit_is) ∙ ap (λ (i : ℕ). meet_by (limit_of (file_of image f).params) w.stand role i b) (sym segment_long))
 
-    pub turned_takes : (s : Bool) (n first : ℕ) (pl : Place) → Deliver n first ≡ meet_by (limit_by f) w.stand digit (size - head) b
-        → pl ≡ record { block = b; offset = o + size; mark = false } → Turned image f s w (Done (Took n first pl))
+    pub turned_takes : (s : Mode) (n first : ℕ) (pl : Place) → Deliver n first ≡ meet_by (limit_by f) w.stand role (size - head) b
+        → pl ≡ record { block = b; offset = o + size; mark = false } → Turned image f s w (Done (Ok (Took n first pl)))
     turned_takes s n first pl h q =
-        let len = deliver_says (limit_by f) w.stand digit (size - head) b n first h in
+        let len = deliver_says (limit_by f) w.stand role (size - head) b n first h in
         let more : size - head ≡ n - length_of w.stand = omega (arith, len) in
-        subst (λ (y : Place). Turned image f s w (Done (Took n first y))) (sym q) (
+        subst (λ (y : Place). Turned image f s w (Done (Ok (Took n first y)))) (sym q) (
           λ body l.
-              turn_takes (mode_of s) (file_of image f).params (file_of image f).blocks b o content tail (held_is part.0) digit size body segment w.stand (look_is ∙ said.0) l n first (met_by _ h)
+              turn_takes (mode_of s) (file_of image f).params (file_of image f).blocks b o content tail (held_is part.0) role size body segment w.stand (look_is ∙ said.0) l n first (met_by _ h)
               ∙ ap (λ (xs : List ℕ). took (record { body = body ++ xs; first_block = first; last_block = b }) (record { block = b; offset = o + size; mark = false }))
               (segment_is ∙ ap (λ (i : ℕ). take i (body_ahead image f w)) more),
           (omega (arith, len), omega (arith, len, ahead_long), omega (arith, len, small)),
         )
 
-    pub turned_breach : (s : Bool) (x : Measured) → Breach ≡ meet_by (limit_by f) w.stand digit (size - head) b → x ≡ Failed (refuse21 b o) → Turned image f s w (Done x)
+    pub turned_breach : (s : Mode) (x : Result Measured Refusal) → Breach ≡ meet_by (limit_by f) w.stand role (size - head) b → x ≡ Err (refuse21 b o) → Turned image f s w (Done x)
     turned_breach s x h q =
-        subst (λ (y : Measured). Turned image f s w (Done y)) (sym q) (
+        subst (λ (y : Result Measured Refusal). Turned image f s w (Done y)) (sym q) (
           λ body l.
-              turn_breach (mode_of s) (file_of image f).params (file_of image f).blocks b o content tail (held_is part.0) digit size body segment w.stand (look_is ∙ said.0) l (met_by _ h),
+              turn_breach (mode_of s) (file_of image f).params (file_of image f).blocks b o content tail (held_is part.0) role size body segment w.stand (look_is ∙ said.0) l (met_by _ h),
           tt,
         )
 
-    module _ (t : Stand) (h : Carry t ≡ meet_by (limit_by f) w.stand digit (size - head) b) where
+    module _ (t : Stand) (h : Carry t ≡ meet_by (limit_by f) w.stand role (size - head) b) where
       reached : Reached image f w (length_of t)
       reached =
-          let len = carry_length (limit_by f) w.stand digit (size - head) b t h in
+          let len = carry_length (limit_by f) w.stand role (size - head) b t h in
           (len.0, omega (arith, len.1, ahead_long), omega (arith, len.1, small))
 
       grows : (body : List ℕ) → state_with (body ++ segment) t ≡ state_with (grown image f w body (length_of t)) t
       grows body =
           ap (λ (xs : List ℕ). state_with (body ++ xs) t) segment_is
-          ∙ carry_state (limit_by f) w.stand digit (size - head) b t body (body_ahead image f w) h
+          ∙ carry_state (limit_by f) w.stand role (size - head) b t body (body_ahead image f w) h
 
-      goes : (s : Bool) (v : Walk) (i j : ℕ) → v.place.block ≡ i → v.place.offset ≡ j → v.stand ≡ t → (body : List ℕ)
+      goes : (s : Mode) (v : Walk) (i j : ℕ) → v.place.block ≡ i → v.place.offset ≡ j → v.stand ≡ t → (body : List ℕ)
           → met_at s i j (state_with (body ++ segment) t) ≡ met_from image f s v (grown image f w body (length_of v.stand))
       goes s v i j p q r body =
           ap (met_at s i j) (grows body)
@@ -270,38 +275,38 @@ module _ (image : List ℕ) (f : FileNumbers) (w : Walk) (e : Entered image f w)
 
       pub carry_low : length_of t ≤ (b + 1) * 65536
       carry_low =
-          let len = carry_length (limit_by f) w.stand digit (size - head) b t h in
+          let len = carry_length (limit_by f) w.stand role (size - head) b t h in
           omega (arith, len.1, inside, size_most f b, k.B-low, e.1.3)
 
-      pub turned_on : (s : Bool) (v : Walk) → (digit ≡ 1 → ⊥) → (digit ≡ 2 → ⊥) → v.place.block ≡ b → v.place.offset ≡ o + size → v.at ≡ w.at → v.stand ≡ t
+      pub turned_on : (s : Mode) (v : Walk) → completes_by role ≡ true → v.place.block ≡ b → v.place.offset ≡ o + size → v.at ≡ w.at → v.stand ≡ t
           → Turned image f s w (On v)
-      turned_on s v x y p q a r =
-          let len = carry_length (limit_by f) w.stand digit (size - head) b t h in (
+      turned_on s v x p q a r =
+          let len = carry_length (limit_by f) w.stand role (size - head) b t h in (
             λ body l.
-                turn_on (mode_of s) (file_of image f).params (file_of image f).blocks b o content tail (held_is part.0) digit size body segment w.stand (look_is ∙ said.0) l t (met_by _ h) x y
+                turn_on (mode_of s) (file_of image f).params (file_of image f).blocks b o content tail (held_is part.0) role size body segment w.stand (look_is ∙ said.0) l t (met_by _ h) x
                 ∙ goes s v b (o + size) p q r body,
             rw r reached,
             rw (p, q, a, r) (e.1.0, e.1.1, omega (arith, inside, size_most f b, k.B-low), omega (arith, len.1, e.1.3)),
-            rw (p, q) (omega (arith, inside, size_most f b, k.B-low, said.3, e.2)),
+            rw (p, q) (omega (arith, inside, size_most f b, k.B-low, said.2, e.2)),
           )
 
-      pub turned_next : (s : Bool) (v : Walk) → (digit ≡ 1) ⊎ (digit ≡ 2) → is_fill (rest_at image f w (o + size)) ≡ true → Walking image f v → v.place.block ≡ b + 1
+      pub turned_next : (s : Mode) (v : Walk) → completes_by role ≡ false → is_fill (rest_at image f w (o + size)) ≡ true → Walking image f v → v.place.block ≡ b + 1
           → v.place.offset ≡ 0 → v.stand ≡ t → Turned image f s w (On v)
       turned_next s v d fill y p q r =
           let z : b + 1 ≡ suc b = omega arith in (
             λ body l.
-                turn_next (mode_of s) (file_of image f).params (file_of image f).blocks b o content tail (held_is part.0) digit size body segment w.stand (look_is ∙ said.0) l t (met_by _ h) d (ap is_fill (rest_of (o + size)) ∙ fill)
+                turn_next (mode_of s) (file_of image f).params (file_of image f).blocks b o content tail (held_is part.0) role size body segment w.stand (look_is ∙ said.0) l t (met_by _ h) d (ap is_fill (rest_of (o + size)) ∙ fill)
                 ∙ goes s v (suc b) 0 (p ∙ z) q r body,
             rw r reached,
             y,
             further v p q,
           )
 
-      pub turned_stops : (s : Bool) (x : Measured) → (digit ≡ 1) ⊎ (digit ≡ 2) → is_fill (rest_at image f w (o + size)) ≡ false → x ≡ Failed (refuse21 b (o + size))
+      pub turned_stops : (s : Mode) (x : Result Measured Refusal) → completes_by role ≡ false → is_fill (rest_at image f w (o + size)) ≡ false → x ≡ Err (refuse21 b (o + size))
           → Turned image f s w (Done x)
       turned_stops s x d fill q =
-          subst (λ (y : Measured). Turned image f s w (Done y)) (sym q) (
+          subst (λ (y : Result Measured Refusal). Turned image f s w (Done y)) (sym q) (
             λ body l.
-                turn_stops (mode_of s) (file_of image f).params (file_of image f).blocks b o content tail (held_is part.0) digit size body segment w.stand (look_is ∙ said.0) l t (met_by _ h) d (ap is_fill (rest_of (o + size)) ∙ fill),
+                turn_stops (mode_of s) (file_of image f).params (file_of image f).blocks b o content tail (held_is part.0) role size body segment w.stand (look_is ∙ said.0) l t (met_by _ h) d (ap is_fill (rest_of (o + size)) ∙ fill),
             tt,
           )

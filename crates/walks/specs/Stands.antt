@@ -1,15 +1,21 @@
 -- Where a reader stands, in numbers: the definitions' states, moves and answers without the bytes.
 -- Assumes nothing.
-use Rattle.std.specs.Prelude.{ℕ, ◌+◌, ◌-◌, Bool, true, false, cond, not, List, length, ltb, eqb}
+use Rattle.std.specs.Prelude.{ℕ, ◌+◌, ◌-◌, Bool, cond, List, length, Result, Ok, Err}
 use Rattle.standard.specs.Labels.{Format, fixed, variable, spanned, Params}
 use Rattle.standard.specs.Places.{place_at, goes_on, after_gap}
 use Rattle.standard.specs.Records.{State, fresh, marked, within, Move as MoveOf, deliver, carry, breach, over_in, Met, took, gapped, ended, refused, refuse20, refuse22}
+use Rattle.blocks.specs.Roles.{begins_by, completes_by}
+use Rattle.blocks.specs.declared.Role.{Role}
+use Rattle.blocks.specs.declared.Role.TheVariants.{Whole, First, Middle, Last}
+use Rattle.walks.specs.declared.Mode.{Mode}
+use Rattle.walks.specs.declared.Mode.TheVariants.{Plain, Salvage}
 use Rattle.walks.specs.declared.Stand.{Stand}
 use Rattle.walks.specs.declared.Stand.TheVariants.{Fresh, Marked, Within}
 use Rattle.walks.specs.declared.Move.{Move}
 use Rattle.walks.specs.declared.Move.TheVariants.{Deliver, Carry, Breach}
 use Rattle.walks.specs.declared.Measured.{Measured}
-use Rattle.walks.specs.declared.Measured.TheVariants.{Took, Lost, Ended, Failed}
+use Rattle.standard.specs.declared.Refusal.{Refusal}
+use Rattle.walks.specs.declared.Measured.TheVariants.{Took, Lost, Ended}
 
 -- the length of the body so far
 abbrev pub length_of : Stand → ℕ
@@ -35,14 +41,17 @@ limit_of p = limit_in p.format p.R
 unfoldable pub joined_by : ℕ → ℕ → ℕ → Bool → Move
 joined_by limit n f completes = cond (over_in spanned limit n) Breach (cond completes (Deliver n f) (Carry (Within n f)))
 
-unfoldable pub dropped_by : ℕ → Move
-dropped_by digit = cond (eqb digit 2) (Carry Marked) (Carry Fresh)
+abbrev pub dropped_by : Role → Move
+dropped_by Whole = Carry Fresh
+dropped_by First = Carry Fresh
+dropped_by Middle = Carry Marked
+dropped_by Last = Carry Fresh
 
--- a segment by its `0`-`3`, of which n bytes are body, met in block b
-unfoldable pub meet_by : ℕ → Stand → ℕ → ℕ → ℕ → Move
-meet_by limit Fresh digit n b = cond (ltb digit 2) (joined_by limit n b (eqb digit 0)) Breach
-meet_by limit Marked digit n b = cond (ltb digit 2) (joined_by limit n b (eqb digit 0)) (dropped_by digit)
-meet_by limit (Within len f) digit n b = cond (ltb digit 2) Breach (joined_by limit (len + n) f (not (eqb digit 2)))
+-- a segment by what it is to its record, of which n bytes are body, met in block b
+unfoldable pub meet_by : ℕ → Stand → Role → ℕ → ℕ → Move
+meet_by limit Fresh k n b = cond (begins_by k) (joined_by limit n b (completes_by k)) Breach
+meet_by limit Marked k n b = cond (begins_by k) (joined_by limit n b (completes_by k)) (dropped_by k)
+meet_by limit (Within len f) k n b = cond (begins_by k) Breach (joined_by limit (len + n) f (completes_by k))
 
 -- the definitions' move, of a reader that then has these bytes
 abbrev pub move_with : List ℕ → Move → MoveOf
@@ -51,33 +60,33 @@ move_with body (Carry s) = carry (state_with body s)
 move_with body Breach = breach
 
 -- what is met, with the bytes
-abbrev pub met_with : List ℕ → Measured → Met
-met_with body (Took n f pl) = took (record { body = body; first_block = f; last_block = pl.block }) pl
-met_with body (Lost pl) = gapped (pl.block - 1) pl
-met_with body Ended = ended
-met_with body (Failed r) = refused r
+abbrev pub met_with : List ℕ → Result Measured Refusal → Met
+met_with body (Ok (Took n f pl)) = took (record { body = body; first_block = f; last_block = pl.block }) pl
+met_with body (Ok (Lost pl)) = gapped (pl.block - 1) pl
+met_with body (Ok Ended) = ended
+met_with body (Err r) = refused r
 
 -- and without
-abbrev pub measured : Met → Measured
-measured (took r pl) = Took (length r.body) r.first_block pl
-measured (gapped b pl) = Lost pl
-measured ended = Ended
-measured (refused r) = Failed r
+abbrev pub measured : Met → Result Measured Refusal
+measured (took r pl) = Ok (Took (length r.body) r.first_block pl)
+measured (gapped b pl) = Ok (Lost pl)
+measured ended = Ok Ended
+measured (refused r) = Err r
 
 -- the length of the record that was met
-abbrev pub length_in : Measured → ℕ
-length_in (Took n f pl) = n
-length_in (Lost pl) = 0
-length_in Ended = 0
-length_in (Failed r) = 0
+abbrev pub length_in : Result Measured Refusal → ℕ
+length_in (Ok (Took n f pl)) = n
+length_in (Ok (Lost pl)) = 0
+length_in (Ok Ended) = 0
+length_in (Err r) = 0
 
 -- "file ends after a 1 or 2 not dropped"
-abbrev pub ended_by : Stand → Measured
-ended_by Fresh = Ended
-ended_by Marked = Ended
-ended_by (Within n f) = Failed refuse22
+abbrev pub ended_by : Stand → Result Measured Refusal
+ended_by Fresh = Ok Ended
+ended_by Marked = Ok Ended
+ended_by (Within n f) = Err refuse22
 
 -- "Meeting it .. gives one gap and the next block's start, marked."; 20 "plain reading meets a lost block", block
-abbrev pub lost_by : Bool → ℕ → Measured
-lost_by true b = Lost (after_gap (goes_on (place_at b 0)))
-lost_by false b = Failed (refuse20 b)
+abbrev pub lost_by : Mode → ℕ → Result Measured Refusal
+lost_by Salvage b = Ok (Lost (after_gap (goes_on (place_at b 0))))
+lost_by Plain b = Err (refuse20 b)

@@ -1,7 +1,7 @@
 // A reader on its way through the blocks of an opened file, one turn at a time: what stands at its place, and what that does to it. Everything here is inner.
 #![tactic(auto)]
 
-ghost use Rattle.std.specs.Prelude.{◌≡◌, false, ◌+◌, ◌-◌, ◌*◌, ◌<◌, ◌≤◌, length};
+ghost use Rattle.std.specs.Prelude.{◌≡◌, ◌+◌, ◌-◌, ◌*◌, ◌<◌, ◌≤◌, length};
 ghost use Rattle.standard.specs.Labels.{spanned};
 ghost use Rattle.standard.specs.Pieces.{is_fill};
 ghost use Rattle.standard.specs.Records.{over_in, refuse21};
@@ -10,13 +10,20 @@ ghost use Rattle.pieces.specs.Looks.{head_of};
 ghost use Rattle.walks.specs.Stands.{length_of, limit_in, joined_by, dropped_by, meet_by, ended_by, lost_by};
 ghost use Rattle.walks.specs.Walks.{Walking, Entered, rest_at, seen_at, NotLost, PartAt, limit_by, Turned};
 
-use blocks::{all_fill, any_failed, onward};
+use blocks::{Role, all_fill, any_failed, onward};
 use extents::Cursor;
 use fields::minus;
 use labels::Form;
 use opening::{FileNumbers, Seat, content_size, seat_at};
 use pieces::{Seen, head, look};
 use standard::{Place, Refusal};
+
+// How a reader goes: "In plain reading" it is refused at a lost block; in salvage it passes over it with a gap.
+#[derive(Clone, Copy, PartialEq, Eq)]
+pub enum Mode {
+    Plain,
+    Salvage,
+}
 
 // Where a reader stands: between records; at a block's start after a gap; inside a spanned record, with the length of its body so far and the block where
 // it began.
@@ -35,14 +42,13 @@ pub enum Move {
     Breach,
 }
 
-// What one reading of a place meets, without the bytes: a record by its length, the block where it began and the place behind it; a lost block by the place
-// behind it; the end; a refusal.
+// What one reading of a place meets where it is not refused, without the bytes: a record by its length, the block where it began and the place behind it; a lost
+// block by the place behind it; the end.
 #[derive(Clone, Copy)]
 pub enum Measured {
     Took(u64, u64, Place),
     Lost(Place),
     Ended,
-    Failed(Refusal),
 }
 
 // "A body over R (unless 0000)", where the limit is R in S, and none elsewhere
@@ -56,6 +62,7 @@ fn over(limit: u64, n: u64) -> bool
 }
 
 // A segment joined to what there is of its record, in all n bytes begun in a block: the last one completes it.
+#[tactic(auto, unfolding(crate::specs::Stands::joined_by))]
 fn joined(limit: u64, n: u64, first: u64, completes: bool) -> Move
     ensures { result ≡ joined_by limit n first completes }
 {
@@ -69,38 +76,39 @@ fn joined(limit: u64, n: u64, first: u64, completes: bool) -> Move
 }
 
 // "a 2 is dropped, unmeasured by R, and the mark stays; a 3 is dropped likewise and reading goes on without it."
-fn dropped(digit: u64) -> Move
-    ensures { result ≡ dropped_by digit }
+fn dropped(role: Role) -> Move
+    ensures { result ≡ dropped_by role }
 {
-    if digit == 2 {
+    if role == Role::Middle {
         return Move::Carry(Stand::Marked);
     }
     Move::Carry(Stand::Fresh)
 }
 
 // "the next segment must be 2 or 3; otherwise it must be 0 or 1."
-fn meet(limit: u64, s: Stand, digit: u64, n: u64, block: u64) -> Move
+#[tactic(auto, unfolding(crate::specs::Stands::meet_by))]
+fn meet(limit: u64, s: Stand, role: Role, n: u64, block: u64) -> Move
     requires { (length_of s < 9223372036854775808) × (n < 4294967296) }
-    ensures { result ≡ meet_by limit s digit n block }
+    ensures { result ≡ meet_by limit s role n block }
 {
     match s {
         Stand::Fresh => {
-            if digit < 2 {
-                return joined(limit, n, block, digit == 0);
+            if role.begins() {
+                return joined(limit, n, block, role.completes());
             }
             Move::Breach
         }
         Stand::Marked => {
-            if digit < 2 {
-                return joined(limit, n, block, digit == 0);
+            if role.begins() {
+                return joined(limit, n, block, role.completes());
             }
-            dropped(digit)
+            dropped(role)
         }
         Stand::Within(length, first) => {
-            if digit < 2 {
+            if role.begins() {
                 return Move::Breach;
             }
-            joined(limit, length + n, first, !(digit == 2))
+            joined(limit, length + n, first, role.completes())
         }
     }
 }
@@ -113,10 +121,10 @@ pub struct Walk {
     pub stand: Stand,
 }
 
-// One turn of a reader: an answer, or the way on.
+// One turn of a reader: what the reading met, or the way on.
 #[derive(Clone, Copy)]
 pub enum Turn {
-    Done(Measured),
+    Done(Result<Measured, Refusal>),
     On(Walk),
 }
 
@@ -143,33 +151,35 @@ fn limit(form: Form, r: u64) -> u64
 }
 
 // 21 "content rule broken", block, offset where record, segment or rest begins
-fn broken_at(block: u64, offset: u64) -> Measured
-    ensures { result ≡ Measured.Failed (refuse21 block offset) }
+fn broken_at(block: u64, offset: u64) -> Result<Measured, Refusal>
+    ensures { result ≡ Err (refuse21 block offset) }
 {
-    Measured::Failed(Refusal::within(21, block, offset))
+    Err(Refusal::within(21, block, offset))
 }
 
 // "file ends after a 1 or 2 not dropped"; else End
-pub fn at_end(s: Stand) -> Measured
+pub fn at_end(s: Stand) -> Result<Measured, Refusal>
     ensures { result ≡ ended_by s }
 {
     match s {
-        Stand::Fresh => Measured::Ended,
-        Stand::Marked => Measured::Ended,
-        Stand::Within(length, first) => Measured::Failed(Refusal::at(22, 0)),
+        Stand::Fresh => Ok(Measured::Ended),
+        Stand::Marked => Ok(Measured::Ended),
+        Stand::Within(_, _) => Err(Refusal::at(22, 0)),
     }
 }
 
 // "Meeting it, also midway in a spanned record, gives one gap and the next block's start, marked." Plain reading is refused.
-fn at_lost(salvage: bool, place: Place, count: u64) -> Measured
+fn at_lost(mode: Mode, place: Place, count: u64) -> Result<Measured, Refusal>
     requires { place.block < count }
-    ensures { result ≡ lost_by salvage place.block }
+    ensures { result ≡ lost_by mode place.block }
 {
-    if salvage {
-        let next = place.next_block(count);
-        return Measured::Lost(next.after_gap());
+    match mode {
+        Mode::Plain => Err(Refusal::at(20, place.block)),
+        Mode::Salvage => {
+            let next = place.next_block(count);
+            Ok(Measured::Lost(next.after_gap()))
+        }
     }
-    Measured::Failed(Refusal::at(20, place.block))
 }
 
 // What stands at the place of a walk, in a block that is not lost.
@@ -206,14 +216,14 @@ fn next(image: &[u8], f: FileNumbers, w: Walk, stand: Stand) -> Walk
     let at = w.at;
     let here = Seat {
         block: place.block,
-        at: at,
+        at,
     };
     let there = seat_at(image, f, here, place.block + 1);
     let start = there.at;
     Walk {
         place: place.next_block(f.count),
         at: start,
-        stand: stand,
+        stand,
     }
 }
 
@@ -221,35 +231,35 @@ fn next(image: &[u8], f: FileNumbers, w: Walk, stand: Stand) -> Walk
 fn carried(
     image: &[u8],
     f: FileNumbers,
-    salvage: bool,
+    mode: Mode,
     w: Walk,
-    digit: u64,
+    role: Role,
     size: u64,
     stand: Stand,
 ) -> Turn
-    requires { (Entered image.now f w) × (PartAt image.now f w digit size) × (Move.Carry stand ≡ meet_by (limit_by f) w.stand digit (size - head_of f.form) w.place.block) }
-    ensures { Turned image.now f salvage w result }
+    requires { (Entered image.now f w) × (PartAt image.now f w role size) × (Move.Carry stand ≡ meet_by (limit_by f) w.stand role (size - head_of f.form) w.place.block) }
+    ensures { Turned image.now f mode w result }
 {
     let place = w.place;
     let end = place.offset + size;
-    if (digit == 1) | (digit == 2) {
-        if rest_is_fill(image, f, w, end) {
-            return Turn::On(next(image, f, w, stand));
-        }
-        return Turn::Done(broken_at(place.block, end));
+    if role.completes() {
+        let at = w.at;
+        return Turn::On(Walk {
+            place: place.behind(end),
+            at,
+            stand,
+        });
     }
-    let at = w.at;
-    Turn::On(Walk {
-        place: place.behind(end),
-        at: at,
-        stand: stand,
-    })
+    if rest_is_fill(image, f, w, end) {
+        return Turn::On(next(image, f, w, stand));
+    }
+    Turn::Done(broken_at(place.block, end))
 }
 
 // A segment, or a record of F or V, of a size with its control word.
-fn part_met(image: &[u8], f: FileNumbers, salvage: bool, w: Walk, digit: u64, size: u64) -> Turn
-    requires { (Entered image.now f w) × (PartAt image.now f w digit size) }
-    ensures { Turned image.now f salvage w result }
+fn part_met(image: &[u8], f: FileNumbers, mode: Mode, w: Walk, role: Role, size: u64) -> Turn
+    requires { (Entered image.now f w) × (PartAt image.now f w role size) }
+    ensures { Turned image.now f mode w result }
 {
     let place = w.place;
     let form = f.form;
@@ -257,25 +267,25 @@ fn part_met(image: &[u8], f: FileNumbers, salvage: bool, w: Walk, digit: u64, si
     let moved = meet(
         limit(form, f.R),
         stand,
-        digit,
+        role,
         minus(size, head(form)),
         place.block,
     );
     match moved {
-        Move::Deliver(length, first) => Turn::Done(Measured::Took(
+        Move::Deliver(length, first) => Turn::Done(Ok(Measured::Took(
             length,
             first,
             place.behind(place.offset + size),
-        )),
-        Move::Carry(next) => carried(image, f, salvage, w, digit, size, next),
+        ))),
+        Move::Carry(next) => carried(image, f, mode, w, role, size, next),
         Move::Breach => Turn::Done(broken_at(place.block, place.offset)),
     }
 }
 
 // One turn of a reader that is in a block of the file which is not lost.
-pub fn turn_in(image: &[u8], f: FileNumbers, salvage: bool, w: Walk) -> Turn
+pub fn turn_in(image: &[u8], f: FileNumbers, mode: Mode, w: Walk) -> Turn
     requires { (Entered image.now f w) × (NotLost image.now f w) }
-    ensures { Turned image.now f salvage w result }
+    ensures { Turned image.now f mode w result }
 {
     let place = w.place;
     let stand = w.stand;
@@ -283,17 +293,17 @@ pub fn turn_in(image: &[u8], f: FileNumbers, salvage: bool, w: Walk) -> Turn
     match met {
         Seen::Blank => Turn::On(next(image, f, w, stand)),
         Seen::Broken => Turn::Done(broken_at(place.block, place.offset)),
-        Seen::Part(digit, size) => part_met(image, f, salvage, w, digit, size),
+        Seen::Part(role, size) => part_met(image, f, mode, w, role, size),
     }
 }
 
 // One turn of a reader that is in a block of the file.
-pub fn take_turn(image: &[u8], f: FileNumbers, salvage: bool, w: Walk) -> Turn
+pub fn take_turn(image: &[u8], f: FileNumbers, mode: Mode, w: Walk) -> Turn
     requires { Entered image.now f w }
-    ensures { Turned image.now f salvage w result }
+    ensures { Turned image.now f mode w result }
 {
     if any_failed(f.g, image, w.at, f.m) {
-        return Turn::Done(at_lost(salvage, w.place, f.count));
+        return Turn::Done(at_lost(mode, w.place, f.count));
     }
-    turn_in(image, f, salvage, w)
+    turn_in(image, f, mode, w)
 }

@@ -1,5 +1,6 @@
 -- From what the parts say to the plan, and from the plan to the image afterwards.
 -- Assumes nothing.
+use Rattle.std.specs.Prelude.{Result, Ok, Err, ⊤}
 use Prim.Native.Nat.{ℕ, ◌/◌, ◌<◌, ◌≤◌}
 use mathlib.Core.Path.{◌≡◌, refl, sym, ap, ◌∙◌}
 use mathlib.Core.Bool.{Bool, true, false, cond, not}
@@ -18,9 +19,6 @@ use Rattle.standard.specs.Writing.{total, packing, needed, lengths_from, next_da
 use Rattle.standard.specs.declared.Geometry.{Geometry}
 use Rattle.standard.specs.declared.Address.{Address}
 use Rattle.standard.specs.declared.Refusal.{Refusal}
-use Rattle.standard.specs.declared.Checked.{Checked}
-use Rattle.standard.specs.declared.Checked.TheVariants.{Passed, Stopped}
-use Rattle.standard.specs.declared.Judged.TheVariants.{Volume}
 use Rattle.promises.specs.Volumes.Judging.{order_append, else_both, not_given}
 use Rattle.promises.specs.Volumes.LabelRules.{Rules, label_rules}
 use Rattle.promises.specs.Volumes.VolumeNumbers.{numbers_of_lem}
@@ -31,23 +29,19 @@ use Rattle.labels.specs.Forms.{form_in, format_for, format_back}
 use Rattle.labels.specs.declared.Form.{Form}
 use Rattle.extents.specs.Cursors.{good_from}
 use Rattle.extents.specs.Surveys.{surveyed}
-use Rattle.extents.specs.declared.Condition.{Condition}
-use Rattle.extents.specs.declared.Condition.TheVariants.{Wrong, Whole, Holed}
 use Rattle.extents.proofs.SurveyLaws.{says}
 use Rattle.files.specs.Numbers.{numbers_of}
 use Rattle.files.specs.declared.Numbers.{Numbers}
-use Rattle.opening.specs.Opened.{is_whole, usable_in}
+use Rattle.opening.specs.Opened.{usable_in}
 use Rattle.opening.proofs.OpenLaws.{usable_facts}
-use Rattle.opening.proofs.OpenedLaws.{whole_only}
 use Rattle.sizing.specs.Lists.{wrong_from, Stands}
 use Rattle.sizing.specs.declared.Level.{Level as CodeLevel}
 use Rattle.sizing.proofs.LevelLaws.{wrong_is}
 use Rattle.writing.specs.Plans.{plan_for, plan_of, plan_or, plan_in, fitted_by, level_on, wrong_by, fault_by, draft_refusal}
 use Rattle.writing.specs.declared.Plan.{Plan}
-use Rattle.writing.specs.declared.Planned.TheVariants.{Stop, Go}
 
 -- ---- 25 AND 26
-pub fault_sum : (f : Format) (B R size : ℕ) (lengths : List ℕ) → eqb (total lengths) size ≡ false → Stopped (refuse 25 0) ≡ fault_by f B R size lengths
+pub fault_sum : (f : Format) (B R size : ℕ) (lengths : List ℕ) → eqb (total lengths) size ≡ false → Err (refuse 25 0) ≡ fault_by f B R size lengths
 unfolding fault_by given_when or_else
 fault_sum f B R size lengths e = rw e
 
@@ -59,39 +53,27 @@ fault_rest f B R size lengths e = rw e
 wrong_by_lem : (g : Geometry) (image : List ℕ) (h : List ℕ) → wrong_by (surveyed g image false (extent g h)) ≡ refusal17 g image h
 wrong_by_lem g image h = go (surveyed g image false (extent g h)) refl
   where
-    go : (k : Condition) → surveyed g image false (extent g h) ≡ k → wrong_by k ≡ refusal17 g image h
-    go (Wrong o) e = sym ((says g image false (extent g h)).wrong o e)
-    go Whole e = sym ((says g image false (extent g h)).whole e).1
-    go Holed e = sym ((says g image false (extent g h)).holes e)
-
-pub found_wrong : (found : Condition) (o : ℕ) (later : Checked) → found ≡ Wrong o → Stopped (refuse 17 o) ≡ or_else (wrong_by found) later
-unfolding or_else
-found_wrong found o later e = rw e
-
-pub found_whole : (found : Condition) (later : Checked) → found ≡ Whole → later ≡ or_else (wrong_by found) later
-unfolding or_else
-found_whole found later e = rw e
-
-pub found_holed : (found : Condition) (later : Checked) → found ≡ Holed → later ≡ or_else (wrong_by found) later
-unfolding or_else
-found_holed found later e = rw e
+    go : (k : Result Bool Refusal) → surveyed g image false (extent g h) ≡ k → wrong_by k ≡ refusal17 g image h
+    go (Err r) e = sym ((says g image false (extent g h)).wrong r e)
+    go (Ok true) e = sym ((says g image false (extent g h)).whole e).1
+    go (Ok false) e = sym ((says g image false (extent g h)).holes e)
 
 -- ---- the first refusal of a row
-order_cut : (a b c d : Checked) → in_order (a ∷ b ∷ c ∷ d ∷ []) ≡ or_else (or_else a (or_else b c)) d
+order_cut : (a b c d : Result ⊤ Refusal) → in_order (a ∷ b ∷ c ∷ d ∷ []) ≡ or_else (or_else a (or_else b c)) d
 unfolding or_else in_order
-order_cut (Stopped r) b c d = refl
-order_cut Passed (Stopped r) c d = refl
-order_cut Passed Passed (Stopped r) d = refl
-order_cut Passed Passed Passed Passed = refl
-order_cut Passed Passed Passed (Stopped r) = refl
+order_cut (Err r) b c d = refl
+order_cut (Ok _) (Err r) c d = refl
+order_cut (Ok _) (Ok _) (Err r) d = refl
+order_cut (Ok _) (Ok _) (Ok _) (Ok _) = refl
+order_cut (Ok _) (Ok _) (Ok _) (Err r) = refl
 
-plan_when : (t : Bool) (r : Refusal) (p : Plan) → plan_or (given_when t r) p ≡ cond t (Stop r) (Go p)
+plan_when : (t : Bool) (r : Refusal) (p : Plan) → plan_or (given_when t r) p ≡ cond t (Err r) (Ok p)
 unfolding given_when
 plan_when true r p = refl
 plan_when false r p = refl
 
 -- a label that passed 13 and 14
-module _ (image : List ℕ) (g : Geometry) (slot : ℕ) (j : judged image ≡ Volume g) (l : has_label g image slot ≡ true) (kn : known_level (label_at g image slot) ≡ true) where
+module _ (image : List ℕ) (g : Geometry) (slot : ℕ) (j : judged image ≡ Ok g) (l : has_label g image slot ≡ true) (kn : known_level (label_at g image slot) ≡ true) where
   abbrev the_label : List ℕ
   the_label = label_at g image slot
 
@@ -103,58 +85,64 @@ module _ (image : List ℕ) (g : Geometry) (slot : ℕ) (j : judged image ≡ Vo
 
   module _ (bodies lengths : List ℕ) where
     -- what is asked before 27, in order
-    abbrev faults : Checked
+    abbrev faults : Result ⊤ Refusal
     faults = or_else (refusal17 g image the_label) (fault_by (format_of the_label) (block_length the_label) (record_length the_label) (length bodies) lengths)
 
     draft_cut : draft_refusal g image slot bodies lengths ≡ or_else faults (refusal27 g image the_label bodies lengths)
     unfolding draft_refusal fault_by
     draft_cut =
         order_cut (refusal17 g image the_label) (refusal25 bodies lengths) (refusal26 the_label lengths) (refusal27 g image the_label bodies lengths)
-        ∙ ap (λ (c : Checked). or_else (or_else (refusal17 g image the_label) (or_else (refusal25 bodies lengths) c)) (refusal27 g image the_label bodies lengths)) (wrong_is the_label 0 lengths)
+        ∙ ap (λ (c : Result ⊤ Refusal). or_else (or_else (refusal17 g image the_label) (or_else (refusal25 bodies lengths) c)) (refusal27 g image the_label bodies lengths)) (wrong_is the_label 0 lengths)
 
-    pub draft_stop : (r : Refusal) → faults ≡ Stopped r → (p : Plan) → Stop r ≡ plan_or (draft_refusal g image slot bodies lengths) p
+    pub draft_stop : (r : Refusal) → faults ≡ Err r → (p : Plan) → Err r ≡ plan_or (draft_refusal g image slot bodies lengths) p
     unfolding or_else
-    draft_stop r e p = sym (ap (λ (c : Checked). plan_or c p) (draft_cut ∙ ap (λ (c : Checked). or_else c (refusal27 g image the_label bodies lengths)) e))
+    draft_stop r e p = sym (ap (λ (c : Result ⊤ Refusal). plan_or c p) (draft_cut ∙ ap (λ (c : Result ⊤ Refusal). or_else c (refusal27 g image the_label bodies lengths)) e))
 
     -- what 25 and 26 leave
-    list_right : faults ≡ Passed → (given_when (not (eqb (total lengths) (length bodies))) (refuse 25 0) ≡ Passed) × (lengths_from the_label 0 lengths ≡ Passed)
+    list_right : faults ≡ Ok tt → (given_when (not (eqb (total lengths) (length bodies))) (refuse 25 0) ≡ Ok tt) × (lengths_from the_label 0 lengths ≡ Ok tt)
     unfolding fault_by
     list_right e =
         let b = else_both _ _ (else_both _ _ e).1 in
         (b.0, wrong_is the_label 0 lengths ∙ b.1)
 
-    pub sum_right : faults ≡ Passed → total lengths ≡ length bodies
+    pub sum_right : faults ≡ Ok tt → total lengths ≡ length bodies
     sum_right e = eqb-true (total lengths) (length bodies) (not-false _ (not_given (not (eqb (total lengths) (length bodies))) _ (list_right e).0))
 
-    pub fits_each : faults ≡ Passed → EachFits (format_of the_label) (block_length the_label) lengths
+    pub fits_each : faults ≡ Ok tt → EachFits (format_of the_label) (block_length the_label) lengths
     fits_each e = each_fits g the_label the_rules 0 lengths (list_right e).1
 
     -- 27, or the plan
-    pub draft_on : faults ≡ Passed → fitted_by g image slot (level_on the_label lengths) ≡ plan_or (draft_refusal g image slot bodies lengths) (plan_of g image slot bodies lengths)
+    pub draft_on : faults ≡ Ok tt → fitted_by g image slot (level_on the_label lengths) ≡ plan_or (draft_refusal g image slot bodies lengths) (plan_of g image slot bodies lengths)
     unfolding or_else fitted_by
     draft_on e =
         let n : needed the_label bodies lengths ≡ (level_on the_label lengths).blocks = needed_level_is g the_label bodies lengths the_rules (sum_right e) (list_right e).1 in
         let u : (packing the_label bodies lengths).U ≡ (level_on the_label lengths).room = unused_counted g the_label bodies lengths the_rules (sum_right e) (list_right e).1 in
-        sym (ap (λ (c : Checked). plan_or c (plan_of g image slot bodies lengths)) (draft_cut ∙ ap (λ (c : Checked). or_else c (refusal27 g image the_label bodies lengths)) e)
+        sym (ap (λ (c : Result ⊤ Refusal). plan_or c (plan_of g image slot bodies lengths)) (draft_cut ∙ ap (λ (c : Result ⊤ Refusal). or_else c (refusal27 g image the_label bodies lengths)) e)
         ∙ (plan_when (ltb (blocks_held g image the_label) (needed the_label bodies lengths)) (refuse 27 (needed the_label bodies lengths)) (plan_of g image slot bodies lengths)
         ∙ rw (n, u)))
 
     -- ---- the numbers that the code has are the label's
     module _ (n : Numbers) (en : n ≡ numbers_of g the_label) where
-      pub walk_is : (found : Condition) → found ≡ surveyed g image false (addresses_from g n.size n.start) → wrong_by found ≡ refusal17 g image the_label
+      walk_is : (found : Result Bool Refusal) → found ≡ surveyed g image false (addresses_from g n.size n.start) → wrong_by found ≡ refusal17 g image the_label
       unfolding numbers_of extent
       walk_is found e = ap wrong_by (e ∙ ap (λ (k : Numbers). surveyed g image false (addresses_from g k.size k.start)) en) ∙ wrong_by_lem g image the_label
 
-      pub whole_is : (found : Condition) → found ≡ surveyed g image false (addresses_from g n.size n.start) → is_whole found ≡ true
+      pub whole_is : (found : Result Bool Refusal) → found ≡ surveyed g image false (addresses_from g n.size n.start) → found ≡ Ok true
           → good_from g image n.size n.start ≡ addresses_from g n.size n.start
-      whole_is found e w = ((says g image false (addresses_from g n.size n.start)).whole (whole_only _ (ap is_whole (sym e) ∙ w))).2
+      whole_is found e w = ((says g image false (addresses_from g n.size n.start)).whole (sym e ∙ w)).2
 
-      pub faults_are : (found : Condition) (form : Form) (size : ℕ) → found ≡ surveyed g image false (addresses_from g n.size n.start) → form ≡ form_in (format_of the_label) → size ≡ length bodies
-          → or_else (wrong_by found) (fault_by (format_for form) n.B n.R size lengths) ≡ faults
-      unfolding numbers_of
-      faults_are found form size e ef es =
+      -- the walk stops it
+      pub walk_stops : (found : Result Bool Refusal) (r : Refusal) → found ≡ surveyed g image false (addresses_from g n.size n.start) → found ≡ Err r → faults ≡ Err r
+      unfolding or_else
+      walk_stops found r e k = rw (sym (walk_is found e) ∙ ap wrong_by k)
+
+      -- the walk does not, and 25 and 26 are left
+      pub faults_are : (found : Result Bool Refusal) (w : Bool) (form : Form) (size : ℕ) → found ≡ surveyed g image false (addresses_from g n.size n.start) → found ≡ Ok w
+          → form ≡ form_in (format_of the_label) → size ≡ length bodies → fault_by (format_for form) n.B n.R size lengths ≡ faults
+      unfolding numbers_of or_else
+      faults_are found w form size e k ef es =
           let back : format_for form ≡ format_of the_label = ap format_for ef ∙ format_back (format_of the_label) in
-          rw (walk_is found e, back, es, en)
+          rw (sym (walk_is found e) ∙ ap wrong_by k, back, es, en)
 
   -- ---- 27, or the plan, by what the code has: the label, its numbers, whether and how its records are blocked, and the list's lengths
   module _ (h : List ℕ) (eh : h ≡ the_label) (n : Numbers) (en : n ≡ numbers_of g h) (form : Form) (ef : form ≡ form_in (format_of h)) (blocked : Bool) (eb : blocked ≡ is_blocked h)
@@ -176,56 +164,56 @@ module _ (image : List ℕ) (g : Geometry) (slot : ℕ) (j : judged image ≡ Vo
       unfolding numbers_of blocks_held good_records extent
       held_is = rw (eg, en, eh)
 
-      pub fit_stop : good / n.m < v.blocks → Stop (refuse 27 v.blocks) ≡ fitted_by g image slot (level_on the_label lengths)
+      pub fit_stop : good / n.m < v.blocks → Err (refuse 27 v.blocks) ≡ fitted_by g image slot (level_on the_label lengths)
       unfolding fitted_by
       fit_stop t = rw (lt-ltb (blocks_held g image the_label) (level_on the_label lengths).blocks (omega (arith, level_is.1, held_is)), level_is.1)
 
       pub fit_go : v.blocks ≤ good / n.m → (last end : Address) → last ≡ end_of h → end ≡ next_data_end g n.start last n.m (good_from g image n.size n.start) v.blocks
-          → Go (record { first = record { at = n.start; left = n.size }; form = form; blocked = blocked; B = n.B; m = n.m; blocks = v.blocks; U = v.room; end = end })
+          → Ok (record { first = record { at = n.start; left = n.size }; form = form; blocked = blocked; B = n.B; m = n.m; blocks = v.blocks; U = v.room; end = end })
           ≡ fitted_by g image slot (level_on the_label lengths)
       unfolding fitted_by plan_for numbers_of data_end_after good_records extent
       fit_go t last end el ee =
           rw (le-ltb (blocks_held g image the_label) (level_on the_label lengths).blocks (omega (arith, level_is.1, held_is)), ee, el, ef, eb, level_is.0, level_is.1, en, eh)
 
 -- ---- 13 TO 16 AND 24, AND THE REST
-order_more : (asked c : Checked) (rest : List Checked) → or_else asked (in_order (c ∷ rest)) ≡ or_else (or_else asked c) (in_order rest)
+order_more : (asked c : Result ⊤ Refusal) (rest : List (Result ⊤ Refusal)) → or_else asked (in_order (c ∷ rest)) ≡ or_else (or_else asked c) (in_order rest)
 unfolding in_order or_else
-order_more Passed Passed rest = refl
-order_more Passed (Stopped r) rest = refl
-order_more (Stopped r) c rest = refl
+order_more (Ok _) (Ok _) rest = refl
+order_more (Ok _) (Err r) rest = refl
+order_more (Err r) c rest = refl
 
 -- by what was asked: u of the slot, then w with 24
-module _ (g : Geometry) (image : List ℕ) (slot : ℕ) (u w : Checked) (eu : u ≡ usable_in g image slot) (ew : w ≡ or_else u (refusal24 (label_at g image slot) slot)) where
+module _ (g : Geometry) (image : List ℕ) (slot : ℕ) (u w : Result ⊤ Refusal) (eu : u ≡ usable_in g image slot) (ew : w ≡ or_else u (refusal24 (label_at g image slot) slot)) where
   abbrev h : List ℕ
   h = label_at g image slot
 
-  asked : (c : Checked) → w ≡ c → or_else (usable_in g image slot) (refusal24 h slot) ≡ c
-  asked c e = ap (λ (k : Checked). or_else k (refusal24 h slot)) (sym eu) ∙ sym ew ∙ e
+  asked : (c : Result ⊤ Refusal) → w ≡ c → or_else (usable_in g image slot) (refusal24 h slot) ≡ c
+  asked c e = ap (λ (k : Result ⊤ Refusal). or_else k (refusal24 h slot)) (sym eu) ∙ sym ew ∙ e
 
-  pub plan_facts : w ≡ Passed → (has_label g image slot ≡ true) × (known_level h ≡ true)
+  pub plan_facts : w ≡ Ok tt → (has_label g image slot ≡ true) × (known_level h ≡ true)
   plan_facts e =
-      let f = usable_facts g image slot (else_both (usable_in g image slot) (refusal24 h slot) (asked Passed e)).0 in
+      let f = usable_facts g image slot (else_both (usable_in g image slot) (refusal24 h slot) (asked (Ok tt) e)).0 in
       (f.0, f.1)
 
   module _ (bodies lengths : List ℕ) where
-    abbrev from17 : List Checked
+    abbrev from17 : List (Result ⊤ Refusal)
     from17 = refusal17 g image h ∷ refusal25 bodies lengths ∷ refusal26 h lengths ∷ refusal27 g image h bodies lengths ∷ []
 
-    row_cut : (c : Checked) → w ≡ c → write_refusal g image slot bodies lengths ≡ or_else c (in_order from17)
+    row_cut : (c : Result ⊤ Refusal) → w ≡ c → write_refusal g image slot bodies lengths ≡ or_else c (in_order from17)
     unfolding write_refusal usable_in
     row_cut c e =
         order_append (refusal13 g image slot ∷ refusal14 h slot ∷ refusal15 h slot ∷ refusal16 h slot ∷ []) (refusal24 h slot ∷ from17)
         ∙ order_more (usable_in g image slot) (refusal24 h slot) from17
-        ∙ ap (λ (k : Checked). or_else k (in_order from17)) (asked c e)
+        ∙ ap (λ (k : Result ⊤ Refusal). or_else k (in_order from17)) (asked c e)
 
-    planned : (c : Checked) → write_refusal g image slot bodies lengths ≡ c → plan_or c (plan_of g image slot bodies lengths) ≡ plan_in g image slot bodies lengths
+    planned : (c : Result ⊤ Refusal) → write_refusal g image slot bodies lengths ≡ c → plan_or c (plan_of g image slot bodies lengths) ≡ plan_in g image slot bodies lengths
     unfolding plan_in
-    planned c e = sym (ap (λ (k : Checked). plan_or k (plan_of g image slot bodies lengths)) e)
+    planned c e = sym (ap (λ (k : Result ⊤ Refusal). plan_or k (plan_of g image slot bodies lengths)) e)
 
-    pub plan_stop : (r : Refusal) → w ≡ Stopped r → Stop r ≡ plan_in g image slot bodies lengths
+    pub plan_stop : (r : Refusal) → w ≡ Err r → Err r ≡ plan_in g image slot bodies lengths
     unfolding or_else
-    plan_stop r e = planned (Stopped r) (row_cut (Stopped r) e)
+    plan_stop r e = planned (Err r) (row_cut (Err r) e)
 
-    pub plan_on : w ≡ Passed → plan_or (draft_refusal g image slot bodies lengths) (plan_of g image slot bodies lengths) ≡ plan_in g image slot bodies lengths
+    pub plan_on : w ≡ Ok tt → plan_or (draft_refusal g image slot bodies lengths) (plan_of g image slot bodies lengths) ≡ plan_in g image slot bodies lengths
     unfolding or_else draft_refusal
-    plan_on e = planned (in_order from17) (row_cut Passed e)
+    plan_on e = planned (in_order from17) (row_cut (Ok tt) e)

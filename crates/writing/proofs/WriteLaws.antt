@@ -1,5 +1,6 @@
 -- The plan carried out is the image afterwards.
 -- Assumes nothing.
+use Rattle.std.specs.Prelude.{Result, Ok, Err, ⊤}
 use Prim.Native.Nat.{ℕ, ◌*◌, ◌<◌, ◌≤◌}
 use mathlib.Core.Path.{◌≡◌, refl, sym, ap, subst, ◌∙◌}
 use mathlib.Core.Bool.{true}
@@ -16,11 +17,6 @@ use Rattle.standard.specs.Writing.{Outcome, lengths_from, total, parted, packing
 use Rattle.standard.specs.declared.Geometry.{Geometry}
 use Rattle.standard.specs.declared.Address.{Address}
 use Rattle.standard.specs.declared.Refusal.{Refusal}
-use Rattle.standard.specs.declared.Checked.TheVariants.{Passed, Stopped}
-use Rattle.standard.specs.declared.Judged.TheVariants.{Refused, Volume}
-use Rattle.standard.specs.declared.Checked.{Checked}
-use Rattle.standard.specs.declared.Written.{Written}
-use Rattle.standard.specs.declared.Written.TheVariants.{Unwritten, Blocks}
 use Rattle.promises.specs.Ground.Basics.{never}
 use Rattle.promises.specs.Volumes.LabelRules.{Rules, block_fits}
 use Rattle.promises.specs.Ground.Lists.{Every}
@@ -47,17 +43,15 @@ use Rattle.filling.proofs.BlockLaws.{pour_blocks}
 use Rattle.ending.proofs.EndSizes.{end_small}
 use Rattle.writing.specs.Plans.{plan_for, plan_of, plan_or, plan_in, Accepted}
 use Rattle.writing.specs.declared.Plan.{Plan}
-use Rattle.writing.specs.declared.Planned.{Planned}
 use Rattle.writing.proofs.PlanLaws.{low}
-use Rattle.writing.specs.declared.Planned.TheVariants.{Stop, Go}
 
 -- F: every record has R bytes, "a divisor of B"
-tiled_form : (g : Geometry) (h lengths : List ℕ) → Rules g h → lengths_from h 0 lengths ≡ Passed → form_in (format_of h) ≡ Fixed
+tiled_form : (g : Geometry) (h lengths : List ℕ) → Rules g h → lengths_from h 0 lengths ≡ Ok tt → form_in (format_of h) ≡ Fixed
     → Tiled (record_length h) (block_length h) lengths
 tiled_form g h lengths r p e = tiled g h lengths r p (sym (format_back (format_of h)) ∙ ap format_for e)
 
 -- ---- AN ACCEPTED WRITE
-module _ (g : Geometry) (image : List ℕ) (slot : ℕ) (bodies lengths : List ℕ) (j : judged image ≡ Volume g) (w : write_refusal g image slot bodies lengths ≡ Passed) where
+module _ (g : Geometry) (image : List ℕ) (slot : ℕ) (bodies lengths : List ℕ) (j : judged image ≡ Ok g) (w : write_refusal g image slot bodies lengths ≡ Ok tt) where
   abbrev the_label : List ℕ
   the_label = label_at g image slot
 
@@ -125,7 +119,7 @@ module _ (g : Geometry) (image : List ℕ) (slot : ℕ) (bodies lengths : List �
   unfolding plan_for image_with
   labelled after h = h
 
-module _ (g : Geometry) (image : List ℕ) (slot : ℕ) (bodies lengths : List ℕ) (j : judged image ≡ Volume g) (w : write_refusal g image slot bodies lengths ≡ Passed) where
+module _ (g : Geometry) (image : List ℕ) (slot : ℕ) (bodies lengths : List ℕ) (j : judged image ≡ Ok g) (w : write_refusal g image slot bodies lengths ≡ Ok tt) where
   plan_end_small : ((plan_of g image slot bodies lengths).end.cylinder < 3000) × ((plan_of g image slot bodies lengths).end.side < 256) × ((plan_of g image slot bodies lengths).end.sector < 3000)
   unfolding plan_for
   plan_end_small = end_small image g slot bodies lengths j w
@@ -166,60 +160,60 @@ module _ (g : Geometry) (image : List ℕ) (slot : ℕ) (bodies lengths : List �
         (k ∙ (ap (set_label g slot p.U p.end) plan_laid ∙ ap (λ (q : Plan). set_label g slot q.U q.end (stored image g slot bodies lengths a.0 a.1)) a.2))
 
 -- ---- THE ANSWER
-abbrev pub Ends : List ℕ → ℕ → List ℕ → List ℕ → Written → List ℕ → Type 0
+abbrev pub Ends : List ℕ → ℕ → List ℕ → List ℕ → Result ℕ Refusal → List ℕ → Type 0
 Ends image slot bodies lengths r after = (r ≡ written image slot bodies lengths) × (after ≡ image_after image slot bodies lengths)
 
 ended_with : (image : List ℕ) (slot : ℕ) (bodies lengths : List ℕ) (o : Outcome) → outcome image slot bodies lengths ≡ o → Ends image slot bodies lengths o.answer o.image
 ended_with image slot bodies lengths o e = (sym (ap (λ (x : Outcome). x.answer) e), sym (ap (λ (x : Outcome). x.image) e))
 
 abbrev unwritten : List ℕ → Refusal → Outcome
-unwritten image r = record { answer = Unwritten r; image = image }
+unwritten image r = record { answer = Err r; image = image }
 
 -- "A file call stops at the first refusal of the volume."
-volume_stopped : (image : List ℕ) (slot : ℕ) (bodies lengths : List ℕ) (r : Refusal) → judged image ≡ Refused r → outcome image slot bodies lengths ≡ unwritten image r
+volume_stopped : (image : List ℕ) (slot : ℕ) (bodies lengths : List ℕ) (r : Refusal) → judged image ≡ Err r → outcome image slot bodies lengths ≡ unwritten image r
 unfolding outcome
 volume_stopped image slot bodies lengths r j = rw j
 
-pub write_stopped : (image : List ℕ) (slot : ℕ) (bodies lengths : List ℕ) (r : Refusal) → judged image ≡ Refused r → Ends image slot bodies lengths (Unwritten r) image
+pub write_stopped : (image : List ℕ) (slot : ℕ) (bodies lengths : List ℕ) (r : Refusal) → judged image ≡ Err r → Ends image slot bodies lengths (Err r) image
 write_stopped image slot bodies lengths r j = ended_with image slot bodies lengths (unwritten image r) (volume_stopped image slot bodies lengths r j)
 
 -- what a plan says of the refusals before it
-abbrev refusal_in : Planned → Refusal → Refusal
-refusal_in (Stop r) other = r
-refusal_in (Go p) other = other
+abbrev refusal_in : Result Plan Refusal → Refusal → Refusal
+refusal_in (Err r) other = r
+refusal_in (Ok p) other = other
 
-abbrev plan_within : Planned → Plan → Plan
-plan_within (Stop r) other = other
-plan_within (Go p) other = p
+abbrev plan_within : Result Plan Refusal → Plan → Plan
+plan_within (Err r) other = other
+plan_within (Ok p) other = p
 
-planned_stop : (c : Checked) (p : Plan) (r : Refusal) → plan_or c p ≡ Stop r → c ≡ Stopped r
-planned_stop Passed p r e = never (cc)
-planned_stop (Stopped s) p r e = ap Stopped (ap (λ (k : Planned). refusal_in k r) e)
+planned_stop : (c : Result ⊤ Refusal) (p : Plan) (r : Refusal) → plan_or c p ≡ Err r → c ≡ Err r
+planned_stop (Ok _) p r e = never (cc)
+planned_stop (Err s) p r e = ap Err (ap (λ (k : Result Plan Refusal). refusal_in k r) e)
 
-planned_go : (c : Checked) (p q : Plan) → plan_or c p ≡ Go q → (c ≡ Passed) × (q ≡ p)
-planned_go Passed p q e = (refl, sym (ap (λ (k : Planned). plan_within k p) e))
-planned_go (Stopped s) p q e = never (cc)
+planned_go : (c : Result ⊤ Refusal) (p q : Plan) → plan_or c p ≡ Ok q → (c ≡ Ok tt) × (q ≡ p)
+planned_go (Ok _) p q e = (refl, sym (ap (λ (k : Result Plan Refusal). plan_within k p) e))
+planned_go (Err s) p q e = never (cc)
 
-module _ (image : List ℕ) (g : Geometry) (slot : ℕ) (bodies lengths : List ℕ) (j : judged image ≡ Volume g) where
-  list_stopped : (r : Refusal) → write_refusal g image slot bodies lengths ≡ Stopped r → outcome image slot bodies lengths ≡ unwritten image r
+module _ (image : List ℕ) (g : Geometry) (slot : ℕ) (bodies lengths : List ℕ) (j : judged image ≡ Ok g) where
+  list_stopped : (r : Refusal) → write_refusal g image slot bodies lengths ≡ Err r → outcome image slot bodies lengths ≡ unwritten image r
   unfolding outcome
   list_stopped r w = rw (j, w)
 
-  pub write_refused : (r : Refusal) → plan_in g image slot bodies lengths ≡ Stop r → Ends image slot bodies lengths (Unwritten r) image
+  pub write_refused : (r : Refusal) → plan_in g image slot bodies lengths ≡ Err r → Ends image slot bodies lengths (Err r) image
   unfolding plan_in
   write_refused r e =
       ended_with image slot bodies lengths (unwritten image r)
       (list_stopped r (planned_stop (write_refusal g image slot bodies lengths) (plan_of g image slot bodies lengths) r e))
 
-  pub write_accepted : (p : Plan) → plan_in g image slot bodies lengths ≡ Go p → Accepted g image slot bodies lengths p
+  pub write_accepted : (p : Plan) → plan_in g image slot bodies lengths ≡ Ok p → Accepted g image slot bodies lengths p
   unfolding plan_in
   write_accepted p e =
       let k = planned_go (write_refusal g image slot bodies lengths) (plan_of g image slot bodies lengths) p e in
       (j, k.0, k.1)
 
   pub write_done : (p : Plan) (after : List ℕ) → Accepted g image slot bodies lengths p → after ≡ image_with g image slot (packing (label_at g image slot) bodies lengths)
-      → Ends image slot bodies lengths (Blocks p.blocks) after
+      → Ends image slot bodies lengths (Ok p.blocks) after
   unfolding plan_for
   write_done p after a h =
       let o = outcome_is image g slot bodies lengths j a.1 in
-      (ap (λ (q : Plan). Blocks q.blocks) a.2 ∙ sym (ap (λ (x : Outcome). x.answer) o), h ∙ sym (ap (λ (x : Outcome). x.image) o))
+      (ap (λ (q : Plan). Ok q.blocks) a.2 ∙ sym (ap (λ (x : Outcome). x.answer) o), h ∙ sym (ap (λ (x : Outcome). x.image) o))

@@ -3,7 +3,6 @@
 #![tactic(auto)]
 
 ghost use Rattle.std.specs.Prelude.{◌≡◌, true, ◌+◌, ◌<◌, length};
-ghost use Rattle.standard.specs.Refusals.{or_else};
 ghost use Rattle.standard.specs.Layout.{label_at};
 ghost use Rattle.standard.specs.Labels.{known_level, format_of, block_length};
 ghost use Rattle.standard.specs.Slots.{has_label};
@@ -14,20 +13,20 @@ ghost use Rattle.promises.specs.Writing.NeededLaws.{EachFits};
 ghost use Rattle.labels.specs.Forms.{format_for};
 ghost use Rattle.extents.specs.Cursors.{legal_at, good_from};
 ghost use Rattle.files.specs.Numbers.{numbers_of};
-ghost use Rattle.writing.specs.Plans.{plan_of, plan_or, plan_in, fitted_by, level_on, wrong_by, fault_by, draft_refusal, Accepted};
+ghost use Rattle.writing.specs.Plans.{plan_of, plan_or, plan_in, fitted_by, level_on, fault_by, draft_refusal, Accepted};
 
 use ending::data_end;
-use extents::{Condition, Cursor, count_good, survey, to_good};
+use extents::{Cursor, count_good, survey, to_good};
 use files::{Numbers, numbers_of};
 use finding::unprotected;
 use labels::{Form, end_of, form_of, is_blocked};
 use laying::store;
 use layout::label_at;
-use opening::{is_whole, usable};
+use opening::usable;
 use relabel::set_label;
 use sizing::{first_wrong, level_after, sums_to};
-use standard::{Address, Checked, Geometry, Judged, Refusal, Written};
-use volume::{judge, refusal_of};
+use standard::{Address, Geometry, Refusal};
+use volume::judge;
 
 // What an accepted write does: the extent from its start on, how its records are laid, the number of blocks, and U and the data end as they will stand.
 #[derive(Clone, Copy)]
@@ -42,13 +41,6 @@ pub struct Plan {
     pub end: Address,
 }
 
-// One of the refusals 13 to 17 and 24 to 27, or the plan.
-#[derive(Clone, Copy)]
-pub enum Planned {
-    Stop(Refusal),
-    Go(Plan),
-}
-
 // The number of good records: where none is defective they need no counting.
 fn good_in(g: Geometry, image: &[u8], first: Cursor, whole: bool) -> u64
     requires { (legal_at g first ≡ true) × (first.left < 4294967296) × (whole ≡ true → good_from g image.now first.left first.at ≡ addresses_from g first.left first.at) }
@@ -61,24 +53,13 @@ fn good_in(g: Geometry, image: &[u8], first: Cursor, whole: bool) -> u64
 }
 
 // Refusals 25 and 26 of a list.
-fn list_fault(form: Form, B: u64, R: u64, size: u64, lengths: &[u32]) -> Checked
+fn list_fault(form: Form, B: u64, R: u64, size: u64, lengths: &[u32]) -> Result<(), Refusal>
     ensures { result ≡ fault_by (format_for form) B R size lengths.now }
 {
     if !sums_to(lengths, size) {
-        return Checked::Stopped(Refusal::at(25, 0));
+        return Err(Refusal::at(25, 0));
     }
     first_wrong(form, B, R, lengths)
-}
-
-// Refusal 17, from what a walk over the extent found, then 25 and 26.
-fn next_fault(found: Condition, form: Form, B: u64, R: u64, size: u64, lengths: &[u32]) -> Checked
-    ensures { result ≡ or_else (wrong_by found) (fault_by (format_for form) B R size lengths.now) }
-{
-    match found {
-        Condition::Wrong(ordinal) => Checked::Stopped(Refusal::at(17, ordinal)),
-        Condition::Whole => list_fault(form, B, R, size, lengths),
-        Condition::Holed => list_fault(form, B, R, size, lengths),
-    }
 }
 
 // Refusal 27, or the plan.
@@ -90,8 +71,8 @@ fn fitted(
     n: Numbers,
     whole: bool,
     lengths: &[u32],
-) -> Planned
-    requires { (judged image.now ≡ Judged.Volume g) × (has_label g image.now slot ≡ true) × (known_level (label_at g image.now slot) ≡ true) × (h.now ≡ label_at g image.now slot) × (length h.now ≡ 128) × (n ≡ numbers_of g h.now) × (whole ≡ true → good_from g image.now n.size n.start ≡ addresses_from g n.size n.start) × (EachFits (format_of h.now) (block_length h.now) lengths.now) × (length lengths.now + total lengths.now < 18446744073709551616) }
+) -> Result<Plan, Refusal>
+    requires { (judged image.now ≡ Ok g) × (has_label g image.now slot ≡ true) × (known_level (label_at g image.now slot) ≡ true) × (h.now ≡ label_at g image.now slot) × (length h.now ≡ 128) × (n ≡ numbers_of g h.now) × (whole ≡ true → good_from g image.now n.size n.start ≡ addresses_from g n.size n.start) × (EachFits (format_of h.now) (block_length h.now) lengths.now) × (length lengths.now + total lengths.now < 18446744073709551616) }
     ensures { result ≡ fitted_by g image.now slot (level_on (label_at g image.now slot) lengths.now) }
 {
     let form = form_of(h);
@@ -107,18 +88,18 @@ fn fitted(
     let blocks = l.blocks;
     let held = good_in(g, image, first, whole) / m;
     if held < blocks {
-        return Planned::Stop(Refusal::at(27, blocks));
+        return Err(Refusal::at(27, blocks));
     }
     let end = data_end(g, image, start, end_of(h), first, whole, m, held, blocks);
-    Planned::Go(Plan {
-        first: first,
-        form: form,
-        blocked: blocked,
-        B: B,
-        m: m,
-        blocks: blocks,
+    Ok(Plan {
+        first,
+        form,
+        blocked,
+        B,
+        m,
+        blocks,
         U: l.room,
-        end: end,
+        end,
     })
 }
 
@@ -130,8 +111,8 @@ fn drafted(
     h: &[u8],
     bodies: &[u8],
     lengths: &[u32],
-) -> Planned
-    requires { (judged image.now ≡ Judged.Volume g) × (has_label g image.now slot ≡ true) × (known_level (label_at g image.now slot) ≡ true) × (h.now ≡ label_at g image.now slot) × (length h.now ≡ 128) }
+) -> Result<Plan, Refusal>
+    requires { (judged image.now ≡ Ok g) × (has_label g image.now slot ≡ true) × (known_level (label_at g image.now slot) ≡ true) × (h.now ≡ label_at g image.now slot) × (length h.now ≡ 128) }
     ensures { result ≡ plan_or (draft_refusal g image.now slot bodies.now lengths.now) (plan_of g image.now slot bodies.now lengths.now) }
 {
     let n = numbers_of(g, h);
@@ -140,13 +121,10 @@ fn drafted(
         at: start,
         left: n.size,
     };
-    let found = survey(g, image, first);
+    let whole = survey(g, image, first)?;
     let size = bodies.len() as u64;
-    let fault = next_fault(found, form_of(h), n.B, n.R, size, lengths);
-    match fault {
-        Checked::Stopped(r) => Planned::Stop(r),
-        Checked::Passed => fitted(g, image, slot, h, n, is_whole(found), lengths),
-    }
+    list_fault(form_of(h), n.B, n.R, size, lengths)?;
+    fitted(g, image, slot, h, n, whole, lengths)
 }
 
 // The plan carried out: the list over the good records of the extent, then U and the data end.
@@ -162,31 +140,26 @@ fn carry_out(g: Geometry, image: &mut [u8], slot: u64, p: Plan, bodies: &[u8], l
 }
 
 // "Writing: 13-16, 24, 17, 25-27": the first refusal, or the plan.
-fn plan_in(g: Geometry, image: &[u8], slot: u64, bodies: &[u8], lengths: &[u32]) -> Planned
-    requires { judged image.now ≡ Judged.Volume g }
+fn plan_in(
+    g: Geometry,
+    image: &[u8],
+    slot: u64,
+    bodies: &[u8],
+    lengths: &[u32],
+) -> Result<Plan, Refusal>
+    requires { judged image.now ≡ Ok g }
     ensures { result ≡ plan_in g image.now slot bodies.now lengths.now }
 {
-    let w = unprotected(g, image, slot, usable(g, image, slot));
-    match w {
-        Checked::Stopped(r) => Planned::Stop(r),
-        Checked::Passed => drafted(g, image, slot, label_at(g, image, slot), bodies, lengths),
-    }
+    unprotected(g, image, slot, usable(g, image, slot))?;
+    drafted(g, image, slot, label_at(g, image, slot), bodies, lengths)
 }
 
 // Writing a file. "A file call stops at the first refusal of the volume." "A refusal returns number and place, and all lent bytes stay."
-pub fn write(image: &mut [u8], slot: u64, bodies: &[u8], lengths: &[u32]) -> Written
+pub fn write(image: &mut [u8], slot: u64, bodies: &[u8], lengths: &[u32]) -> Result<u64, Refusal>
     ensures { (result ≡ written image.old slot bodies.now lengths.now) × (image.new ≡ image_after image.old slot bodies.now lengths.now) }
 {
-    let j = judge(image);
-    let Judged::Volume(g) = j else {
-        return Written::Unwritten(refusal_of(j));
-    };
-    let d = plan_in(g, image, slot, bodies, lengths);
-    match d {
-        Planned::Stop(r) => Written::Unwritten(r),
-        Planned::Go(p) => {
-            carry_out(g, image, slot, p, bodies, lengths);
-            Written::Blocks(p.blocks)
-        }
-    }
+    let g = judge(image)?;
+    let p = plan_in(g, image, slot, bodies, lengths)?;
+    carry_out(g, image, slot, p, bodies, lengths);
+    Ok(p.blocks)
 }

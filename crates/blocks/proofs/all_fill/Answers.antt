@@ -28,7 +28,7 @@ pub returns-then-not-fill_run : goal.returns-then-not-fill_run
 returns-then-not-fill_run c =
     let x = c.args in
     let w = c.loop-i in
-    let k = c.wide16-p.result - w.i in
+    let k = c.from-p.result - w.i in
     let o = c.byte_offset in
     let f = run_fill x.g x.image.now w.c w.i k o.result c.requires.0.0 (omega arith) w.invariant.1 (omega (arith, w.invariant.2)) o.ensures.0 in
     let t = sym f ∙ (sym c.fill_run.ensures ∙ not-true c.fill_run.result c.if-not-fill_run.true-raw) in
@@ -38,7 +38,7 @@ pub loop-i-preserved : goal.loop-i-preserved
 loop-i-preserved c =
     let x = c.args in
     let w = c.loop-i in
-    let k = c.wide16-p.result - w.i in
+    let k = c.from-p.result - w.i in
     let o = c.byte_offset in
     let p : w.i + k ≡ x.g.P = omega (arith, w.invariant.2) in
     let less : w.n - k ≤ x.count = omega (arith, w.invariant.3) in

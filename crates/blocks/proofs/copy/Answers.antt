@@ -1,26 +1,14 @@
 -- Record by record: what was laid so far, and what is ahead of the cursor behind it.
 -- Assumes nothing.
 use Prim.Native.Nat.{ℕ, ◌+◌, ◌-◌, ◌≤◌, ◌<◌}
-use mathlib.Core.Path.{◌≡◌, refl, ◌∙◌, sym, ap}
+use mathlib.Core.Path.{◌≡◌, ◌∙◌, ap}
 use lib.ListN.{drop, length, length-drop}
-use lib.Seq.{paste, paste-zero, length-paste, drop-drop}
+use lib.Seq.{length-paste, drop-drop}
 use native.Mathlib.Omega.{arith}
 use Rattle.blocks.specs.Streams.{stream}
 use Rattle.blocks.proofs.StreamLaws.{run_inside, stream_some, stream_next}
 use Rattle.blocks.proofs.CopyLaws.{paste_turn, paste_run}
 use Rattle.blocks.proofs.copy.Goals as goal
-
-pub returns-then-count-eq0 : goal.returns-then-count-eq0
-returns-then-count-eq0 c =
-    let x = c.args in
-    let z : 0 ≡ x.count = omega arith in
-    paste-zero x.out.now x.to (stream x.g x.image.now x.from x.first) ∙ ap (paste x.out.now x.to (stream x.g x.image.now x.from x.first)) z
-
-pub loop-i-init : goal.loop-i-init
-loop-i-init c =
-    let x = c.args in
-    let z : x.count - x.count ≡ 0 = omega arith in
-    (omega arith, omega arith, refl, paste-zero x.out.now x.to (stream x.g x.image.now x.from x.first) ∙ ap (paste x.out.now x.to (stream x.g x.image.now x.from x.first)) (sym z), ap (λ (k : ℕ). drop k (stream x.g x.image.now x.from x.first)) (sym z), c.requires.1, c.requires.2, omega arith)
 
 pub byte_offset-requires : goal.byte_offset-requires
 byte_offset-requires c =
@@ -34,7 +22,7 @@ pub copy_run-requires : goal.copy_run-requires
 copy_run-requires c =
     let x = c.args in
     let w = c.loop-i in
-    let k = c.wide16-p.result - w.i in
+    let k = c.from-p.result - w.i in
     let l : w.n ≤ length (stream x.g x.image.now w.c w.i) = rw (w.invariant.4, length-drop (x.count - w.n) (stream x.g x.image.now x.from x.first)) (omega (arith, w.invariant.0)) in
     let s = stream_some x.g x.image.now w.c w.i (omega (arith, l, w.invariant.7)) in
     (omega (arith, run_inside x.g x.image.now w.c w.i k c.requires.0.0 s w.invariant.5 (omega (arith, w.invariant.6)), c.byte_offset.ensures.0), omega (arith, w.invariant.0, w.invariant.1, w.invariant.2))
@@ -51,7 +39,7 @@ pub loop-i-preserved : goal.loop-i-preserved
 loop-i-preserved c =
     let x = c.args in
     let w = c.loop-i in
-    let k = c.wide16-p.result - w.i in
+    let k = c.from-p.result - w.i in
     let o = c.byte_offset in
     let p : w.i + k ≡ x.g.P = omega (arith, w.invariant.6) in
     let z : x.count - w.n + k ≡ x.count - (w.n - k) = omega (arith, w.invariant.0) in

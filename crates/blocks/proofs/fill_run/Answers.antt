@@ -1,33 +1,17 @@
--- `fill_run` meets its contract.
+-- `fill_run` meets its contract: what `all` says of the part of the image.
 -- Assumes nothing.
-use Prim.Native.Nat.{ℕ, ◌+◌, ◌-◌}
-use mathlib.Core.Path.{◌≡◌, ◌∙◌, sym, ap}
-use lib.ListN.{take, drop}
-use native.Mathlib.Omega.{arith}
+use Rattle.std.proofs.Common.{ℕ, ◌+◌, ◌-◌, ◌≡◌, ap, ◌∙◌, eqb, take, drop, arith, rules, tests}
+use Rattle.std.proofs.lemmas.Iterator.{YieldsList-from_slice}
+use Rattle.std.proofs.lemmas.Iterator.Search.{all_from_yields_List}
 use Rattle.standard.specs.Pieces.{is_fill}
-use Rattle.blocks.proofs.FillLaws.{byte_on, byte_not, none_left}
+use Rattle.blocks.proofs.FillLaws.{all_zero}
 use Rattle.blocks.proofs.fill_run.Goals as goal
-
-pub loop-i-init : goal.loop-i-init
-loop-i-init c =
-    let x = c.args in
-    let e : x.from + x.n - x.from ≡ x.n = omega arith in
-    (omega arith, ap (λ (k : ℕ). is_fill (take k (drop x.from x.image.now))) e)
-
-pub returns-then-wide-ne0 : goal.returns-then-wide-ne0
-returns-then-wide-ne0 c =
-    let x = c.args in
-    let w = c.loop-i in
-    sym (sym w.invariant.1 ∙ byte_not x.image.now w.i (x.from + x.n) c.wide.result (omega arith) c.wide.ensures.0 (λ z. omega arith))
-
-pub loop-i-preserved : goal.loop-i-preserved
-loop-i-preserved c =
-    let x = c.args in
-    let w = c.loop-i in
-    (omega arith, byte_on x.image.now w.i (x.from + x.n) c.wide.result (omega arith) c.wide.ensures.0 (omega arith) ∙ w.invariant.1)
 
 pub returns : goal.returns
 returns c =
     let x = c.args in
-    let w = c.loop-i in
-    sym (sym w.invariant.1 ∙ none_left (x.from + x.n - w.i) (drop w.i x.image.now) (omega arith))
+    let run = take (x.from + x.n - x.from) (drop x.from x.image.now) in
+    let e : x.from + x.n - x.from ≡ x.n = omega arith in
+    all_from_yields_List (λ b. eqb b 0) _ _ _ c.all.ensures.ran (YieldsList-from_slice run cc) (λ y b q k. search (rules, tests))
+    ∙ all_zero run
+    ∙ ap (λ (k : ℕ). is_fill (take k (drop x.from x.image.now))) e

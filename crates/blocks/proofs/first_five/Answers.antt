@@ -17,15 +17,7 @@ pub returns-then-i-p : goal.returns-then-i-p
 returns-then-i-p c =
     let x = c.args in
     let e = sym (run_is x.g x.image.now x.c x.i 5 c.requires.0.0 (omega arith) c.requires.1 (omega arith)) in
-    let f = c.five_at.ensures in
-    (f.0 ∙ ap (λ (o : ℕ). five_of (drop o x.image.now)) c.byte_offset.ensures.0 ∙ five_same _ _ e, f.1, f.2, f.3, f.4, f.5)
+    c.five_at.ensures ∙ ap (λ (o : ℕ). five_of (drop o x.image.now)) c.byte_offset.ensures.0 ∙ five_same _ _ e
 
 pub returns : goal.returns
-returns c = (
-  five_by _ _ _ _ _ _ c.peek.ensures.0 c.peek-2.ensures.0 c.peek-3.ensures.0 c.peek-4.ensures.0 c.peek-5.ensures.0,
-  c.peek.ensures.1,
-  c.peek-2.ensures.1,
-  c.peek-3.ensures.1,
-  c.peek-4.ensures.1,
-  c.peek-5.ensures.1,
-)
+returns c = five_by _ _ _ _ _ _ c.peek.ensures.0 c.peek-2.ensures.0 c.peek-3.ensures.0 c.peek-4.ensures.0 c.peek-5.ensures.0

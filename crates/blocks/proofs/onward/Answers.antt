@@ -15,7 +15,7 @@ returns-then-to-p c =
 pub returns : goal.returns
 returns c =
     let x = c.args in
-    let p = c.wide16-p.result in
-    let e = c.wide16-p.ensures.0 in
+    let p = c.from-p.result in
+    let e = c.from-p.ensures in
     let q : (x.i + x.k) / p * x.g.P + (x.i + x.k) % p ≡ x.i + x.k = rw (sym e) (div-add-mod' (x.i + x.k) p) in
     (stream_on x.g x.image.now x.c c.skip_good-d.result x.i x.k ((x.i + x.k) / p) c.requires.0.0 c.requires.1 c.skip_good-d.ensures.0 ((x.i + x.k) % p) q, c.skip_good-d.ensures.1, omega (arith, mod-lt (x.i + x.k) {m = p} (omega arith)), c.skip_good-d.ensures.2)

@@ -1,11 +1,11 @@
 -- `block_in` meets its contract: no digits, or a number that fits or not.
 -- Assumes nothing.
-use Rattle.fields.proofs.PerhapsLaws.{is_nothing, perhaps_same, read_fails, read_holds, read_number}
+use Rattle.fields.proofs.PerhapsLaws.{none_handed, then_made, read_fails, read_holds, read_number}
 use Rattle.checks.proofs.PartLaws.{block_no, block_is}
 use Rattle.checks.proofs.block_in.Goals as goal
 
-pub returns-in_default : goal.returns-in_default
-returns-in_default c = search (is_nothing, block_no, read_fails)
+pub returns-in_err-b : goal.returns-in_err-b
+returns-in_err-b c = search (none_handed, block_no, read_fails, c.in_err-b.was)
 
 pub returns : goal.returns
-returns c = search (perhaps_same, block_is, read_holds, read_number)
+returns c = search (then_made, block_is, read_holds, read_number, c.in_ok-b.was)

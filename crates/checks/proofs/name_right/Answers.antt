@@ -8,4 +8,4 @@ pub returns-then-c : goal.returns-then-c
 returns-then-c c = c.short_name.ensures ∙ name_short _ (short_level c.args.h.now _ _ c.requires.1 c.if-c.true)
 
 pub returns : goal.returns
-returns c = c.all_of.ensures ∙ name_long _ (short_level c.args.h.now _ _ c.requires.1 c.if-c.false)
+returns c = c.all_in_a_set.ensures ∙ name_long _ (short_level c.args.h.now _ _ c.requires.1 c.if-c.false)

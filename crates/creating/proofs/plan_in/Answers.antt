@@ -1,38 +1,36 @@
 -- Each exit by its law.
 -- Assumes nothing.
-use Prim.Native.Nat.{ℕ, ◌≤◌}
-use mathlib.Core.Path.{◌≡◌, sym, ap, ◌∙◌}
+use Rattle.std.specs.Prelude.{Err}
+use mathlib.Core.Path.{sym, ap, ◌∙◌}
 use native.Mathlib.Omega.{arith}
+use Rattle.fields.proofs.RowLaws.{faultless, fault_is, fault_some}
+use Rattle.index.proofs.SlotLaws.{slot_found, slot_missed}
 use Rattle.volume.proofs.NumberLaws.{slotted_of}
-use Rattle.creating.specs.declared.Planned.TheVariants.{Stop}
 use Rattle.creating.proofs.MakeLaws.{plan_10, plan_12, plan_on, plan_29, plan_some}
 use Rattle.creating.proofs.plan_in.Goals as goal
 
--- no fault: the proposal passes
-faultless : (r p : ℕ) → r ≡ p → r ≤ 0 → p ≡ 0
-faultless r p e none = omega arith
-
-pub returns-then-fault-gt0 : goal.returns-then-fault-gt0
-returns-then-fault-gt0 c = ap Stop c.within.ensures ∙ plan_10 _ _ _ _ _ c.proposal_fault-fault.ensures c.if-fault-gt0.true
+pub returns-in-Some : goal.returns-in-Some
+returns-in-Some c = ap Err c.within.ensures ∙ plan_10 _ _ _ _ _ (fault_is _ c.in-Some.is c.proposal_fault.ensures) (fault_some _ c.in-Some.is c.proposal_fault.ensures)
 
 pub slice_bounds-slot_named-end : goal.slice_bounds-slot_named-end
 slice_bounds-slot_named-end c =
     let a = c.args in
-    omega (arith, plan_29 a.g a.image.now a.wanted.now a.n (faultless _ _ c.proposal_fault-fault.ensures c.if-fault-gt0.false))
+    omega (arith, plan_29 a.g a.image.now a.wanted.now a.n (faultless _ c.in_default.is c.proposal_fault.ensures))
 
-pub slot_named-bearer-requires : goal.slot_named-bearer-requires
-slot_named-bearer-requires c = slotted_of _ _ c.requires
+pub slot_named-requires : goal.slot_named-requires
+slot_named-requires c = slotted_of _ _ c.requires
 
-pub returns-then-bearer-gt0 : goal.returns-then-bearer-gt0
-returns-then-bearer-gt0 c =
-    ap Stop c.at.ensures ∙ plan_12 _ _ _ _ _ (faultless _ _ c.proposal_fault-fault.ensures c.if-fault-gt0.false) c.slot_named-bearer.ensures.0 c.if-bearer-gt0.true
+pub returns-in-Some-slot_named : goal.returns-in-Some-slot_named
+returns-in-Some-slot_named c =
+    let s = slot_found _ _ (sym c.slot_named.ensures.0 ∙ c.in-Some-slot_named.is) in
+    ap Err c.at.ensures ∙ plan_12 _ _ _ _ _ (faultless _ c.in_default.is c.proposal_fault.ensures) s.0 (omega (arith, s.0, s.1))
 
 pub room_in-requires : goal.room_in-requires
 room_in-requires c =
     let a = c.args in
-    (c.requires, plan_some a.g a.image.now a.wanted.now a.n (faultless _ _ c.proposal_fault-fault.ensures c.if-fault-gt0.false))
+    (c.requires, plan_some a.g a.image.now a.wanted.now a.n (faultless _ c.in_default.is c.proposal_fault.ensures))
 
 pub returns : goal.returns
 returns c =
-    let none : c.slot_named-bearer.result ≡ 0 = omega arith in
-    c.room_in.ensures ∙ plan_on _ _ _ _ (faultless _ _ c.proposal_fault-fault.ensures c.if-fault-gt0.false) (sym c.slot_named-bearer.ensures.0 ∙ none)
+    let none = slot_missed _ (sym c.slot_named.ensures.0 ∙ c.in_default-slot_named.is) in
+    c.room_in.ensures ∙ plan_on _ _ _ _ (faultless _ c.in_default.is c.proposal_fault.ensures) none

@@ -1,32 +1,32 @@
 -- Refused by the volume, refused by the list, or done.
 -- Assumes nothing.
-use mathlib.Core.Path.{sym, ap, ◌∙◌}
-use Rattle.standard.specs.declared.Counted.TheVariants.{Uncounted}
-use Rattle.volume.specs.Stages.{refusal_of}
+use mathlib.Core.Path.{sym, ◌∙◌}
+use Rattle.standard.proofs.RefusalLaws.{handed_on}
 use Rattle.deleting.proofs.DropLaws.{drop_stopped, drop_refused, drop_done}
 use Rattle.deleting.proofs.delete.Goals as goal
 
-pub returns-in_default : goal.returns-in_default
-returns-in_default c =
+pub returns-in_err-g : goal.returns-in_err-g
+returns-in_err-g c =
     let a = c.args in
-    let t = c.in_default.is in
-    let e = drop_stopped a.image.now a.slot _ (sym c.judge-j.ensures ∙ t) in
-    (ap Uncounted (c.refusal_of.ensures ∙ ap refusal_of t) ∙ e.0, e.1)
+    let t = c.in_err-g.was in
+    let e = drop_stopped a.image.now a.slot _ (sym c.judge.ensures ∙ t) in
+    (handed_on _ _ c.from_residual.ensures ∙ e.0, e.1)
 
-pub plan_out-c-requires : goal.plan_out-c-requires
-plan_out-c-requires c = sym c.judge-j.ensures ∙ c.in-Volume.is
+pub plan_out-requires : goal.plan_out-requires
+plan_out-requires c = sym c.judge.ensures ∙ c.in_ok-g.was
 
 pub drop_label-requires : goal.drop_label-requires
 drop_label-requires c =
-    (sym c.judge-j.ensures ∙ c.in-Volume.is, sym c.plan_out-c.ensures ∙ c.in-Passed.is)
+    (sym c.judge.ensures ∙ c.in_ok-g.was, sym c.plan_out.ensures ∙ c.in_ok-plan_out.was)
 
-pub returns-in-Stopped : goal.returns-in-Stopped
-returns-in-Stopped c =
+pub returns-in_err-plan_out : goal.returns-in_err-plan_out
+returns-in_err-plan_out c =
     let a = c.args in
-    drop_refused a.image.now _ a.slot (sym c.judge-j.ensures ∙ c.in-Volume.is) _ (sym c.plan_out-c.ensures ∙ c.in-Stopped.is)
+    rw (handed_on _ _ c.from_residual-in_err-plan_out.ensures)
+    (drop_refused a.image.now _ a.slot (sym c.judge.ensures ∙ c.in_ok-g.was) _ (sym c.plan_out.ensures ∙ c.in_err-plan_out.was))
 
-pub returns-in-Passed : goal.returns-in-Passed
-returns-in-Passed c =
+pub returns : goal.returns
+returns c =
     let d = c.drop_label in
     let a = c.args in
-    drop_done a.image.now _ a.slot (sym c.judge-j.ensures ∙ c.in-Volume.is) d.result d.new.image (sym c.plan_out-c.ensures ∙ c.in-Passed.is) d.ensures.0 d.ensures.1
+    drop_done a.image.now _ a.slot (sym c.judge.ensures ∙ c.in_ok-g.was) d.result d.new.image (sym c.plan_out.ensures ∙ c.in_ok-plan_out.was) d.ensures.0 d.ensures.1

@@ -2,7 +2,6 @@
 -- Assumes nothing.
 use mathlib.Core.Path.{sym, ap, ◌∙◌}
 use lib.ListN.{drop}
-use native.Mathlib.Omega.{arith}
 use Rattle.standard.specs.Files.{addresses_from, good_among}
 use Rattle.extents.proofs.RankLaws.{whole_behind, whole_stands}
 use Rattle.extents.proofs.nth_good.Goals as goal
@@ -16,9 +15,3 @@ returns-then-whole c =
     let w = c.requires.2 c.if-whole.true in
     let k = ap (good_among x.g x.image.now) e ∙ whole_behind x.g x.image.now x.n a w ∙ sym e in
     (whole_stands x.g x.image.now r.left r.at k ∙ e ∙ ap (drop x.n) (sym w), c.skip_any.ensures.1, c.skip_any.ensures.2)
-
-pub returns : goal.returns
-returns c =
-    let x = c.args in
-    let t = c.to_good.ensures in
-    (c.skip_good.ensures.0 ∙ ap (drop x.n) t.0, c.skip_good.ensures.1, omega (arith, c.skip_good.ensures.2, t.2))

@@ -1,68 +1,57 @@
 -- The walk from the start is the walk from here.
 -- Assumes nothing.
-use mathlib.Core.Path.{refl, sym, ap, ◌∙◌}
-use mathlib.Core.Bool.{Bool, false, cond}
+use Rattle.std.specs.Prelude.{Err}
+use Rattle.standard.specs.Refusals.{refuse}
+use Prim.Native.Nat.{◌-◌}
+use mathlib.Core.Path.{◌≡◌, sym, ap, ◌∙◌}
+use mathlib.Core.Bool.{false}
 use native.Mathlib.Omega.{arith}
-use borrow.Author.Rules.{rules}
-use Rattle.standard.specs.Layout.{kind_offset}
-use Rattle.standard.specs.Addresses.{ordinal}
-use Rattle.standard.specs.Files.{is_defective, is_wrong}
-use Rattle.standard.specs.declared.Address.{Address}
+use Rattle.standard.specs.Addresses.{stepped}
+use Rattle.standard.specs.Files.{addresses_from, is_defective, is_wrong}
 use Rattle.layout.proofs.TrackLaws.{legal_small}
-use Rattle.extents.specs.declared.Condition.TheVariants.{Wrong, Whole, Holed}
-use Rattle.extents.proofs.CursorLaws.{legal_head, legal_next}
-use Rattle.extents.proofs.SurveyLaws.{flaw_stop, flaw_more, survey_more, survey_stop, survey_end}
+use Rattle.extents.specs.Surveys.{surveyed}
+use Rattle.extents.proofs.CursorLaws.{walk_here, flaw_wrong, flaw_defective, flaw_good}
+use Rattle.extents.proofs.SurveyLaws.{survey_hole, survey_good, survey_stop, survey_end}
+use Rattle.extents.proofs.survey.Goals.{in-Defective, in-Good}
 use Rattle.extents.proofs.survey.Goals as goal
 
-pub returns-then-left-eq0 : goal.returns-then-left-eq0
-returns-then-left-eq0 c =
+pub returns-then-from-eq0 : goal.returns-then-from-eq0
+returns-then-from-eq0 c =
     let x = c.args in
-    sym (survey_end x.g x.image.now false x.from.left x.from.at (omega (arith, c.if-left-eq0.true)))
+    sym (survey_end x.g x.image.now false x.from.left x.from.at (omega (arith, c.if-from-eq0.true)))
 
-pub kind_of-o-requires : goal.kind_of-o-requires
-kind_of-o-requires c = legal_head _ _ _ (omega (arith, c.if-left-eq0.false)) c.requires
-
-pub loop-left-init : goal.loop-left-init
-loop-left-init c = (refl, search rules, c.kind_of-o.ensures.0)
-
-pub flaw_of-flaw-requires : goal.flaw_of-flaw-requires
-flaw_of-flaw-requires c = let w = c.loop-left in (legal_head _ _ _ (omega arith) w.invariant.1, w.invariant.2)
+pub flaw_of-requires : goal.flaw_of-requires
+flaw_of-requires c = walk_here _ _ c.loop-w.invariant.1 c.loop-w-test.true
 
 pub ordinal_of-requires : goal.ordinal_of-requires
 ordinal_of-requires c =
-    let w = c.loop-left in
-    legal_small _ w.at (omega arith) (omega arith) (omega arith) (legal_head _ _ _ (omega arith) w.invariant.1)
+    let w = c.loop-w in
+    legal_small _ w.w.at (omega arith) (omega arith) (omega arith) (walk_here _ _ w.invariant.1 c.loop-w-test.true).0
 
-pub returns-then-flaw-eq2 : goal.returns-then-flaw-eq2
-returns-then-flaw-eq2 c =
+pub returns-in-Wrong : goal.returns-in-Wrong
+returns-in-Wrong c =
     let x = c.args in
-    let w = c.loop-left in
-    let f = flaw_stop (is_wrong x.g x.image.now w.at) (is_defective x.g x.image.now w.at) (sym c.flaw_of-flaw.ensures ∙ c.if-flaw-eq2.true) in
-    sym (w.invariant.0 ∙ survey_stop x.g x.image.now w.holed w.left w.at (omega arith) f ∙ ap Wrong (sym c.ordinal_of.ensures.0))
+    let w = c.loop-w in
+    let f = flaw_wrong (is_wrong x.g x.image.now w.w.at) (is_defective x.g x.image.now w.w.at) (sym c.flaw_of.ensures ∙ c.in-Wrong.is) in
+    sym (w.invariant.0 ∙ survey_stop x.g x.image.now w.holed w.w.left w.w.at c.loop-w-test.true f ∙ sym (ap Err (c.at.ensures ∙ ap (refuse 17) c.ordinal_of.ensures.0)))
 
-pub kind_after-o-requires : goal.kind_after-o-requires
-kind_after-o-requires c =
-    let w = c.loop-left in
-    (legal_head _ _ _ (omega arith) w.invariant.1, c.step-next.ensures, w.invariant.2)
-
-pub loop-left-preserved : goal.loop-left-preserved
-loop-left-preserved c =
+pub loop-w-preserved : goal.loop-w-preserved
+loop-w-preserved c =
     let x = c.args in
-    let w = c.loop-left in
-    let r = c.flaw_of-flaw.ensures in
-    let f = flaw_more (is_wrong x.g x.image.now w.at) (is_defective x.g x.image.now w.at) (λ e. c.if-flaw-eq2.false (r ∙ e)) in
-    let s = survey_more x.g x.image.now w.holed w.left w.at (omega arith) f.0 in
-    let k = c.kind_after-o.ensures in
-    rw (c.step-next.ensures, r, f.1) (w.invariant.0 ∙ s, legal_next _ _ _ (omega arith) w.invariant.1, k ∙ ap (λ (a : Address). kind_offset x.g (ordinal x.g a)) c.step-next.ensures)
-
-pub returns-then-holed : goal.returns-then-holed
-returns-then-holed c =
-    let x = c.args in
-    let w = c.loop-left in
-    sym (w.invariant.0 ∙ survey_end x.g x.image.now w.holed w.left w.at (omega arith) ∙ ap (λ (b : Bool). cond b Holed Whole) c.if-holed.true)
+    let w = c.loop-w in
+    let s = c.step-w.ensures in
+    let wrong = is_wrong x.g x.image.now w.w.at in
+    let defective = is_defective x.g x.image.now w.w.at in
+    let look = sym c.flaw_of.ensures in
+    let rest = addresses_from x.g (w.w.left - 1) (stepped x.g w.w.at) in
+    let more : surveyed x.g x.image.now w.holed (addresses_from x.g w.w.left w.w.at) ≡ surveyed x.g x.image.now c.match-flaw_of.holed rest = elim c.match-flaw_of.branch [
+      | in-Defective v ↦ rw v.holed-is (survey_hole x.g x.image.now w.holed w.w.left w.w.at c.loop-w-test.true (flaw_defective wrong defective (look ∙ v.in-Defective.is)))
+      | in-Good v ↦ rw v.holed-is (survey_good x.g x.image.now w.holed w.w.left w.w.at c.loop-w-test.true (flaw_good wrong defective (look ∙ v.in-Good.is)))
+    ] in
+    (rw (s.1, s.2) (w.invariant.0 ∙ more), s.0)
 
 pub returns : goal.returns
 returns c =
     let x = c.args in
-    let w = c.loop-left in
-    sym (w.invariant.0 ∙ survey_end x.g x.image.now w.holed w.left w.at (omega arith) ∙ ap (λ (b : Bool). cond b Holed Whole) c.if-holed.false)
+    let w = c.loop-w in
+    sym (w.invariant.0 ∙ survey_end x.g x.image.now w.holed w.w.left w.w.at (omega arith))

@@ -5,13 +5,13 @@ use Rattle.fields.proofs.PerhapsLaws.{test_holds, number_is, test_fails}
 use Rattle.fields.proofs.NumberLaws.{blank_yes, number_no, number_yes}
 use Rattle.fields.proofs.spaces_or_number.Goals as goal
 
-pub returns-then-all_of : goal.returns-then-all_of
-returns-then-all_of c = blank_yes _ _ _ (sym c.all_of.ensures ∙ c.if-all_of.true)
+pub returns-then-all_spaces : goal.returns-then-all_spaces
+returns-then-all_spaces c = blank_yes _ _ _ (sym c.all_spaces.ensures ∙ c.if-all_spaces.true)
 
 pub returns-in_default : goal.returns-in_default
 returns-in_default c =
-    number_no _ _ _ (sym c.all_of.ensures ∙ c.if-all_of.false) (test_fails _ _ (sym c.decimal_in-read.ensures ∙ c.in_default.is))
+    number_no _ _ _ (sym c.all_spaces.ensures ∙ c.if-all_spaces.false) (test_fails _ _ (sym c.decimal_in.ensures ∙ c.in_default.is))
 
 pub returns : goal.returns
 returns c =
-    c.in_range.ensures ∙ number_yes _ _ c.args.f.now _ (sym c.all_of.ensures ∙ c.if-all_of.false) (test_holds _ _ _ (sym c.decimal_in-read.ensures ∙ c.in-Number.is)) (number_is _ _ _ (sym c.decimal_in-read.ensures ∙ c.in-Number.is))
+    c.in_range.ensures ∙ number_yes _ _ c.args.f.now _ (sym c.all_spaces.ensures ∙ c.if-all_spaces.false) (test_holds _ _ _ (sym c.decimal_in.ensures ∙ c.in-Some.is)) (number_is _ _ _ (sym c.decimal_in.ensures ∙ c.in-Some.is))

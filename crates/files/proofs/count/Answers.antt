@@ -1,16 +1,15 @@
 -- A refused volume, and the count of an accepted one.
 -- Assumes nothing.
-use mathlib.Core.Path.{sym, ap, ◌∙◌}
-use Rattle.standard.specs.declared.Counted.TheVariants.{Uncounted}
-use Rattle.volume.specs.Stages.{refusal_of}
+use mathlib.Core.Path.{sym, ◌∙◌}
+use Rattle.standard.proofs.RefusalLaws.{handed_on}
 use Rattle.files.proofs.Laws.{counted_refused, counted_in}
 use Rattle.files.proofs.count.Goals as goal
 
-pub returns-in_default : goal.returns-in_default
-returns-in_default c = ap Uncounted (c.refusal_of.ensures ∙ ap refusal_of c.in_default.is) ∙ counted_refused _ _ _ (sym c.judge-j.ensures ∙ c.in_default.is)
+pub returns-in_err-g : goal.returns-in_err-g
+returns-in_err-g c = handed_on _ _ c.from_residual.ensures ∙ counted_refused _ _ _ (sym c.judge.ensures ∙ c.in_err-g.was)
 
 pub count_in-requires : goal.count_in-requires
-count_in-requires c = sym c.judge-j.ensures ∙ c.in-Volume.is
+count_in-requires c = sym c.judge.ensures ∙ c.in_ok-g.was
 
 pub returns : goal.returns
-returns c = c.count_in.ensures ∙ counted_in _ _ _ (sym c.judge-j.ensures ∙ c.in-Volume.is)
+returns c = c.count_in.ensures ∙ counted_in _ _ _ (sym c.judge.ensures ∙ c.in_ok-g.was)

@@ -10,11 +10,11 @@ unfolding records_to_block
 returns-then-p-b c =
     let x = c.args in
     let e = c.block_length-b.ensures.0 in
-    let p = c.wide16-p.ensures.0 in
+    let p = c.from-p.ensures in
     simp (lt-ltb x.g.P (block_length x.h.now) (omega (arith, e, p))) (cc (e, p))
 
 pub returns : goal.returns
 unfolding records_to_block
 returns c =
     let x = c.args in
-    simp (le-ltb x.g.P (block_length x.h.now) (omega (arith, c.block_length-b.ensures.0, c.wide16-p.ensures.0)))
+    simp (le-ltb x.g.P (block_length x.h.now) (omega (arith, c.block_length-b.ensures.0, c.from-p.ensures)))

@@ -8,8 +8,3 @@ pub kind_of-at-requires : goal.kind_of-at-requires
 kind_of-at-requires c =
     let x = c.args in
     legal_head x.g x.c.left x.c.at (omega arith) c.requires.1
-
-pub mark_at-requires : goal.mark_at-requires
-mark_at-requires c =
-    let p = c.requires in
-    (p.0, p.1, p.2, c.kind_of-at.ensures.0)

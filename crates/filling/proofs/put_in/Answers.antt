@@ -13,25 +13,13 @@ pub overflow_add-e : goal.overflow_add-e
 overflow_add-e c =
     let x = c.args in
     let p = c.requires in
-    omega (arith, pen_room x.g x.image.now x.p p.0, c.wide16.ensures.0)
+    omega (arith, pen_room x.g x.image.now x.p p.0, c.from.ensures)
 
 pub slice_bounds-pack-end : goal.slice_bounds-pack-end
 slice_bounds-pack-end c =
     let x = c.args in
     let p = c.requires in
-    omega (arith, pen_room x.g x.image.now x.p p.0, c.wide16.ensures.0)
-
-pub overflow_add-result-3 : goal.overflow_add-result-3
-overflow_add-result-3 c =
-    let x = c.args in
-    let p = c.requires in
-    omega (arith, pen_room x.g x.image.now x.p p.0)
-
-pub overflow_add-result-4 : goal.overflow_add-result-4
-overflow_add-result-4 c =
-    let x = c.args in
-    let p = c.requires in
-    omega (arith, pen_room x.g x.image.now x.p p.0)
+    omega (arith, pen_room x.g x.image.now x.p p.0, c.from.ensures)
 
 pub returns : goal.returns
 returns c =
@@ -41,4 +29,4 @@ returns c =
     let p = x.p in
     let all = packed x.bytes.now x.from x.n x.zeros in
     let l : length all ≡ x.n + x.zeros = packed_length x.bytes.now x.from x.n x.zeros q.2 in
-    (part_lays x.g s p all q.0 (omega (arith, l, q.1)) c.wide16.result c.pack.new.body (p.i + x.n + x.zeros) (p.at + x.n + x.zeros) c.wide16.ensures.0 c.pack.ensures (omega (arith, l)) (omega (arith, l)), refl, refl)
+    (part_lays x.g s p all q.0 (omega (arith, l, q.1)) c.from.result c.pack.new.body (p.i + x.n + x.zeros) (p.at + x.n + x.zeros) c.from.ensures c.pack.ensures (omega (arith, l)) (omega (arith, l)), refl, refl)

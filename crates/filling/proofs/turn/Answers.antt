@@ -45,5 +45,5 @@ returns c =
     let e = c.step-next.ensures in
     let more : 1 < x.p.c.left = omega (arith, q.0.2, c.if-left-eq1.false) in
     let ln : legal x.g next ≡ true = legal_head x.g _ next (omega (arith, more)) (next_legal x.g s x.p q.0 q.1 next e more) in
-    let good = not_incorrect x.g s next ln c.kind_behind-o.result c.wide-kind.result c.wide.result c.kind_behind-o.ensures c.wide-kind.ensures.0 c.wide.ensures.0 c.if-kind-wide.false in
+    let good = not_incorrect x.g s next ln c.kind_behind-o.result c.from-kind.result c.from.result c.kind_behind-o.ensures c.from-kind.ensures c.from.ensures c.if-kind-from.false in
     turn_next x.g s x.p q.0 q.1 next e more good _ _ c.mark_at.ensures

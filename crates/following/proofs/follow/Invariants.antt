@@ -1,10 +1,6 @@
--- Each turn leaves one fewer.
-use Prim.Native.Nat.{◌≤◌}
+-- What is carried is of the same image.
 use Rattle.opened.specs.Carries.{Carries}
 use Rattle.following.proofs.follow.Given as goal
 
-abbrev pub invariant-loop-left : goal.invariant-loop-left
-invariant-loop-left g l = (l.left ≤ 4096) × (Carries l.image l.carried)
-
-abbrev pub decreases-loop-left : goal.decreases-loop-left
-decreases-loop-left g l = l.left
+abbrev pub invariant-loop : goal.invariant-loop
+invariant-loop g l = Carries l.image l.carried

@@ -1,19 +1,20 @@
 -- A space and the digits, or nothing.
 -- Assumes nothing.
-use mathlib.Core.Path.{sym}
+use Prim.Native.Nat.{◌<◌}
+use mathlib.Core.Path.{◌≡◌, sym}
+use lib.ListN.{length}
+use borrow.Author.Rules.{rules}
 use native.Mathlib.Omega.{arith}
-use Rattle.text.proofs.LaidLaws.{puts_as, puts_more, puts_none}
+use Rattle.text.proofs.LaidLaws.{writes_as, writes_more, writes_none}
 use Rattle.following.proofs.Laws.{body_none, body_some}
 use Rattle.following.proofs.put_body.Goals as goal
 
-pub returns-then-body-eq0 : goal.returns-then-body-eq0
-returns-then-body-eq0 c =
-    let x = c.args in
-    (puts_as (sym (body_none x.body.now (omega arith))) (puts_none x.out.now x.at), omega arith)
+pub returns-then-is_empty : goal.returns-then-is_empty
+returns-then-is_empty c =
+    let none : length c.args.body.now ≡ 0 = search rules in
+    writes_as (omega arith) (sym (body_none c.args.body.now none)) (writes_none c.args.text.now)
 
 pub returns : goal.returns
 returns c =
-    let x = c.args in
-    let p = c.put_byte-next.ensures in
-    let q = c.put_hex.ensures in
-    (puts_as (body_some x.body.now (omega arith)) (puts_more p q.0), omega (arith, p.next, q.1))
+    let some : 0 < length c.args.body.now = grind arith in
+    writes_as (omega arith) (body_some c.args.body.now some) (writes_more c.byte.ensures c.put_hex.ensures)

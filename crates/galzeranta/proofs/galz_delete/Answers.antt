@@ -7,4 +7,4 @@ use Rattle.galzeranta.proofs.galz_delete.Goals as goal
 pub returns : goal.returns
 returns c =
     let said = c.delete.ensures in
-    (c.pack_counted.ensures ∙ ap packed_counted said.0, said.1)
+    (c.pack_number.ensures.counted ∙ ap packed_counted said.0, said.1)

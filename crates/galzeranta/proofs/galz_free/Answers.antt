@@ -5,4 +5,4 @@ use Rattle.standard.specs.Packed.{packed_counted}
 use Rattle.galzeranta.proofs.galz_free.Goals as goal
 
 pub returns : goal.returns
-returns c = c.pack_counted.ensures ∙ ap packed_counted c.free.ensures
+returns c = c.pack_number.ensures.counted ∙ ap packed_counted c.free.ensures

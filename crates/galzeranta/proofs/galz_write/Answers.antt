@@ -7,4 +7,4 @@ use Rattle.galzeranta.proofs.galz_write.Goals as goal
 pub returns : goal.returns
 returns c =
     let said = c.write.ensures in
-    (c.pack_written.ensures ∙ ap packed_written said.0, said.1)
+    (c.pack_number.ensures.written ∙ ap packed_written said.0, said.1)

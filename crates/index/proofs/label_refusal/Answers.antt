@@ -1,16 +1,28 @@
 -- `label_refusal` meets its contract: no fault, no `HDR1`, another fault.
 -- Assumes nothing.
-use Rattle.std.proofs.Common.{ap, ◌∙◌}
+use Rattle.std.specs.Prelude.{Err}
+use Prim.Native.Nat.{ℕ}
+use mathlib.Core.List.{List}
+use native.Mathlib.Omega.{arith}
+use Rattle.std.proofs.Common.{◌<◌, ap, refl, ◌∙◌}
 use Rattle.standard.specs.Labels.{label_fault}
-use Rattle.standard.specs.declared.Checked.TheVariants.{Stopped}
+use Rattle.fields.specs.Numbers.{fault_in}
+use Rattle.fields.proofs.RowLaws.{faultless, fault_is, fault_some}
 use Rattle.index.proofs.RefusalLaws.{label_passed, no_label, label_broken}
 use Rattle.index.proofs.label_refusal.Goals as goal
 
-pub returns-then-fault-eq0 : goal.returns-then-fault-eq0
-returns-then-fault-eq0 c = label_passed _ _ _ c.requires.0.indexed c.requires.1 _ (c.label_fault-fault.ensures ∙ ap (label_fault c.args.g) c.label_at.ensures.0) c.if-fault-eq0.true
+pub returns-in-None : goal.returns-in-None
+returns-in-None c =
+    let f = c.label_fault.ensures ∙ ap (λ (h : List ℕ). fault_in (label_fault c.args.g h)) c.label_at.ensures.0 in
+    label_passed _ _ _ c.requires.0.indexed c.requires.1 _ refl (faultless _ c.in-None.is f)
 
-pub returns-then-fault-eq1 : goal.returns-then-fault-eq1
-returns-then-fault-eq1 c = ap Stopped c.at.ensures ∙ no_label _ _ _ c.requires.0.indexed c.requires.1 _ (c.label_fault-fault.ensures ∙ ap (label_fault c.args.g) c.label_at.ensures.0) c.if-fault-eq1.true
+pub returns-in-Some-eq1 : goal.returns-in-Some-eq1
+returns-in-Some-eq1 c =
+    let f = c.label_fault.ensures ∙ ap (λ (h : List ℕ). fault_in (label_fault c.args.g h)) c.label_at.ensures.0 in
+    ap Err c.at.ensures ∙ no_label _ _ _ c.requires.0.indexed c.requires.1 _ (fault_is _ c.in-Some-eq1.is f) (omega arith)
 
-pub returns : goal.returns
-returns c = ap Stopped c.within.ensures ∙ label_broken _ _ _ c.requires.0.indexed c.requires.1 _ (c.label_fault-fault.ensures ∙ ap (label_fault c.args.g) c.label_at.ensures.0) c.if-fault-eq0.false c.if-fault-eq1.false
+pub returns-in-Some : goal.returns-in-Some
+returns-in-Some c =
+    let f = c.label_fault.ensures ∙ ap (λ (h : List ℕ). fault_in (label_fault c.args.g h)) c.label_at.ensures.0 in
+    let s : 0 < c.in-Some.fault = fault_some _ c.in-Some.is f in
+    ap Err c.within.ensures ∙ label_broken _ _ _ c.requires.0.indexed c.requires.1 c.in-Some.fault (fault_is _ c.in-Some.is f) (λ z. omega (arith, s, z)) c.in-Some.fault-test.1

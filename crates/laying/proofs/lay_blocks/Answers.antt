@@ -1,55 +1,26 @@
 -- From block to block: what is to be laid from here is what was to be laid from the start.
 -- Assumes nothing.
-use Prim.Native.Nat.{◌-◌}
-use mathlib.Core.Path.{refl, sym, ◌∙◌}
+use Prim.Native.Nat.{ℕ, min}
+use mathlib.Core.Path.{◌≡◌, sym, ap, ◌∙◌}
 use lib.ListN.{length}
 use native.Mathlib.Omega.{arith}
-use Rattle.laying.proofs.DeskLaws.{block_on, blocks_end, least_some_of}
+use Rattle.std.specs.Slice.Iter.{chunks_rest}
+use Rattle.laying.proofs.DeskLaws.{block_on, blocks_end}
 use Rattle.laying.proofs.lay_blocks.Goals as goal
 
-pub loop-from-init : goal.loop-from-init
-loop-from-init c =
-    ((λ tail. refl), c.requires.0, refl, omega arith)
-
-pub overflow_sub-size : goal.overflow_sub-size
-overflow_sub-size c =
-    omega (arith, c.least-n.ensures.0, c.requires.2)
-
-pub put-p-requires : goal.put-p-requires
-put-p-requires c =
-    let w = c.loop-from in
-    let l = c.least-n in
-    (w.invariant.1, omega (arith, l.ensures.1, c.loop-from-test.true), omega (arith, l.ensures.0, c.requires.2, c.requires.3), omega (arith, c.requires.3))
-
-pub overflow_add-from : goal.overflow_add-from
-overflow_add-from c =
-    let l = c.least-n in
-    omega (arith, l.ensures.1, c.loop-from-test.true, c.well_formed.1.1.1.1.1.0)
-
-pub loop-from-smaller : goal.loop-from-smaller
-loop-from-smaller c =
-    let l = c.least-n in
-    let w = c.loop-from in
+pub loop-block-preserved : goal.loop-block-preserved
+loop-block-preserved c =
     let a = c.args in
-    let t = c.loop-from-test.true in
-    let s = least_some_of a.B (length a.bodies.now - w.from) l.result c.requires.1 l.ensures.2 (omega (arith, t)) in
-    omega (arith, l.ensures.1, s, t)
-
-pub loop-from-preserved : goal.loop-from-preserved
-loop-from-preserved c =
-    let w = c.loop-from in
-    let a = c.args in
-    let l = c.least-n in
+    let w = c.loop-block in
+    let x = c.in-Some.block.now in
+    let s = c.in-Some.ensures.steps in
     let t = c.put-p in
-    let on = block_on a.g a.B a.size a.bodies.now w.image t.new.image w.p t.result w.from l.result c.requires.1 c.requires.2 c.loop-from-test.true l.ensures.2 t.ensures in (
-      λ tail. w.invariant.0 tail ∙ on tail,
-      t.ensures.1,
-      t.ensures.1.0.0 ∙ sym c.requires.0.0.0,
-      omega (arith, l.ensures.1, c.loop-from-test.true),
-    )
+    let n : length x ≡ min a.B (length (chunks_rest w.block-iterator)) = s.1.1 ∙ ap (λ (k : ℕ). min k (length (chunks_rest w.block-iterator))) w.invariant.2 in
+    let on = block_on a.g a.B a.size w.image t.new.image w.p t.result (chunks_rest w.block-iterator) x (chunks_rest c.next.new.self) c.requires.1 s.1.0 n s.1.2 t.ensures in
+    (omega (arith, s.0), tt, s.0 ∙ w.invariant.2, λ tail. w.invariant.3 tail ∙ on tail, t.ensures.1, t.ensures.1.0.0 ∙ sym c.requires.0.0.0)
 
 pub returns : goal.returns
 returns c =
-    let w = c.loop-from in
     let a = c.args in
-    ((λ tail. w.invariant.0 tail ∙ blocks_end a.g a.B a.size a.bodies.now w.image w.p w.from c.loop-from-test.false tail), w.invariant.1)
+    let w = c.loop-block in
+    (λ tail. w.invariant.3 tail ∙ blocks_end a.g a.B a.size w.image w.p (chunks_rest w.block-iterator) c.in-None.ensures.steps.1.0 tail, w.invariant.4)

@@ -1,20 +1,7 @@
 -- By the format.
 -- Assumes nothing.
-use Rattle.laying.proofs.DeskLaws.{tiled_some, fits_in, listed_fixed, listed_variable, listed_spanned}
+use Rattle.laying.proofs.DeskLaws.{listed_fixed, listed_variable, listed_spanned}
 use Rattle.laying.proofs.lay_list.Goals as goal
-
-pub lay_blocks-requires : goal.lay_blocks-requires
-lay_blocks-requires c =
-    let a = c.args in
-    (c.requires.0, tiled_some _ a.B a.lengths.now (c.requires.4 c.in-Fixed.is).1, c.requires.1, c.requires.2)
-
-pub lay_records-requires : goal.lay_records-requires
-lay_records-requires c =
-    ((c.requires.1, c.requires.2), c.requires.0, fits_in _ _ c.args.B c.args.lengths.now c.in-Variable.is c.requires.3, c.requires.5)
-
-pub lay_records-requires-in-Spanned : goal.lay_records-requires-in-Spanned
-lay_records-requires-in-Spanned c =
-    ((c.requires.1, c.requires.2), c.requires.0, fits_in _ _ c.args.B c.args.lengths.now c.in-Spanned.is c.requires.3, c.requires.5)
 
 pub returns-in-Fixed : goal.returns-in-Fixed
 returns-in-Fixed c R tiled =

@@ -1,28 +1,12 @@
 -- A record that stands whole in its block, behind its control word.
 -- Assumes nothing.
-use Rattle.laying.proofs.DeskLaws.{room_ready, whole_laid, part_length, variable_laid}
+use Rattle.laying.proofs.DeskLaws.{whole_laid, part_length, variable_laid}
 use Prim.Native.Nat.{ℕ, ◌+◌}
 use lib.ListN.{take, drop}
-use native.Mathlib.Omega.{arith}
 use mathlib.Core.Path.{ap, ◌∙◌}
 use Rattle.standard.specs.Packing.{record_v}
 use Rattle.promises.specs.Writing.WritingLaws.{record_v_length}
 use Rattle.laying.proofs.lay_variable.Goals as goal
-
-pub overflow_sub-room : goal.overflow_sub-room
-overflow_sub-room c =
-    let x = c in
-    let a = x.args in
-    let q = c.room_for-b in
-    let w = room_ready a.g a.s a.image.now q.new.image a.d q.result (4 + a.n) x.requires.0 x.requires.1 x.requires.2 q.ensures in
-    w.1
-
-pub overflow_sub-result : goal.overflow_sub-result
-overflow_sub-result c =
-    let a = c.args in
-    let q = c.room_for-b in
-    let w = room_ready a.g a.s a.image.now q.new.image a.d q.result (4 + a.n) c.requires.0 c.requires.1 c.requires.2 q.ensures in
-    omega (arith, w.1, w.0.1)
 
 pub returns : goal.returns
 returns c =

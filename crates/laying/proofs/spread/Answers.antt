@@ -1,45 +1,11 @@
 -- From segment to segment: what is to be laid from here is what was to be laid from the start.
 -- Assumes nothing.
 use Prim.Native.Nat.{◌-◌}
-use mathlib.Core.Path.{refl, sym, ◌∙◌}
+use mathlib.Core.Path.{sym, ◌∙◌}
 use native.Mathlib.Omega.{arith}
 use Rattle.promises.proofs.Writing.NeededLaws.{least_most, six_left}
 use Rattle.laying.proofs.DeskLaws.{segment_on, segment_end}
 use Rattle.laying.proofs.spread.Goals as goal
-
-pub loop-room-init : goal.loop-room-init
-loop-room-init c =
-    ((λ more tail. refl), c.requires.1.0, refl, c.requires.1.1, c.requires.1.2, c.requires.1.3, c.requires.2, c.requires.3, c.requires.4, c.requires.5)
-
-pub overflow_sub-k : goal.overflow_sub-k
-overflow_sub-k c =
-    let w = c.loop-room in
-    let o = six_left w.n w.room c.args.s.B c.loop-room-test.true w.invariant.6 w.invariant.7 in
-    omega arith
-
-pub lay_segment-p-requires : goal.lay_segment-p-requires
-lay_segment-p-requires c =
-    let w = c.loop-room in
-    let o = six_left w.n w.room c.args.s.B c.loop-room-test.true w.invariant.6 w.invariant.7 in
-    (w.invariant.1, omega (arith, w.invariant.8), omega (arith, w.invariant.9), omega (arith, c.requires.0.1))
-
-pub overflow_add-from : goal.overflow_add-from
-overflow_add-from c =
-    let w = c.loop-room in
-    let o = six_left w.n w.room c.args.s.B c.loop-room-test.true w.invariant.6 w.invariant.7 in
-    omega (arith, w.invariant.8)
-
-pub overflow_sub-n : goal.overflow_sub-n
-overflow_sub-n c =
-    let w = c.loop-room in
-    let o = six_left w.n w.room c.args.s.B c.loop-room-test.true w.invariant.6 w.invariant.7 in
-    omega arith
-
-pub loop-room-smaller : goal.loop-room-smaller
-loop-room-smaller c =
-    let w = c.loop-room in
-    let o = six_left w.n w.room c.args.s.B c.loop-room-test.true w.invariant.6 w.invariant.7 in
-    omega arith
 
 pub loop-room-preserved : goal.loop-room-preserved
 loop-room-preserved c =
@@ -62,16 +28,6 @@ loop-room-preserved c =
       omega (arith, w.invariant.8),
       omega (arith, w.invariant.9),
     )
-
-pub lay_segment-q-requires : goal.lay_segment-q-requires
-lay_segment-q-requires c =
-    let w = c.loop-room in
-    (w.invariant.1, w.invariant.8, w.invariant.9, omega arith)
-
-pub overflow_sub-result-2 : goal.overflow_sub-result-2
-overflow_sub-result-2 c =
-    let w = c.loop-room in
-    omega (arith, w.invariant.3)
 
 pub returns : goal.returns
 returns c =

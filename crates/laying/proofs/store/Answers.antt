@@ -21,25 +21,12 @@ returns-then-c-eq0 c R tiled =
     let a = c.args in
     stored_nowhere a.g a.image.now a.c (format_for a.form) R a.blocked (a.m * a.g.P) a.B a.bodies.now a.lengths.now c.if-c-eq0.true
 
-pub overflow_mul-size : goal.overflow_mul-size
-overflow_mul-size c =
-    let a = c.args in
-    let e : a.m * c.wide16.result ≡ a.m * a.g.P = ap (λ (k : ℕ). a.m * k) c.wide16.ensures.0 in
-    omega (arith, e, c.requires.4)
-
-pub lay_list-requires : goal.lay_list-requires
-lay_list-requires c =
-    let a = c.args in
-    let e : a.m * c.wide16.result ≡ a.m * a.g.P = ap (λ (k : ℕ). a.m * k) c.wide16.ensures.0 in
-    (c.begin-p.ensures.1, omega (arith, e, c.requires.3), omega (arith, e, c.requires.4), c.requires.5, c.requires.6, c.requires.7)
-
 pub returns : goal.returns
 returns c R tiled =
     let a = c.args in
     let b = c.begin-p in
     let t = c.lay_list in
-    let w = c.wide16 in
-    let e : a.m * w.result ≡ a.m * a.g.P = ap (λ (k : ℕ). a.m * k) w.ensures.0 in
+    let e : a.m * c.from.result ≡ a.m * a.g.P = ap (λ (k : ℕ). a.m * k) c.from.ensures in
     let some : 1 ≤ a.m * a.g.P = omega (arith, c.requires.0.1, mul-le-mul_right a.g.P c.requires.2) in
     stored_all a.g a.image.now a.c (format_for a.form) R a.blocked (a.m * a.g.P) a.B a.bodies.now a.lengths.now b.new.image t.new.image b.result t.result some c.if-lengths-eq0.false b.ensures.0
     (subst (λ (k : ℕ). Lays a.g b.new.image b.result (flat k (pack_in (format_for a.form) R a.blocked a.B (parted a.bodies.now a.lengths.now)).contents) t.new.image t.result) e (t.ensures R tiled))

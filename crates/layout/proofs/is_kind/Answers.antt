@@ -5,14 +5,10 @@ use borrow.Author.Tests.{eq-eqb, ne_eqb}
 use borrow.Author.Rules.{rules}
 use Rattle.layout.proofs.is_kind.Goals as goal
 
-pub returns-then-c-k : goal.returns-then-c-k
-unfolding kind_of
-returns-then-c-k c = search (rules, eq-eqb, ne_eqb)
-
 pub returns-then-c-k-2 : goal.returns-then-c-k-2
 unfolding kind_of
 returns-then-c-k-2 c = search (rules, eq-eqb, ne_eqb)
 
-pub returns : goal.returns
+pub returns-else-c-k-2 : goal.returns-else-c-k-2
 unfolding kind_of
-returns c = search (rules, eq-eqb, ne_eqb)
+returns-else-c-k-2 c = search (rules, eq-eqb, ne_eqb)

@@ -4,19 +4,14 @@ use mathlib.Core.Path.{ap}
 use mathlib.Core.List.{◌++◌}
 use Prim.Native.Nat.{ℕ}
 use native.Mathlib.Omega.{arith}
-use Rattle.text.proofs.LaidLaws.{puts_as, puts_more}
 use Rattle.standard.specs.Characters.{shown}
 use Rattle.standard.specs.Listing.{newline, count_shown}
+use Rattle.text.proofs.LaidLaws.{writes_as, writes_more}
 use Rattle.lines.specs.Parts.{bar, last_fields}
 use Rattle.lines.proofs.put_last.Goals as goal
 
 pub returns : goal.returns
 unfolding last_fields
 returns c =
-    let p = c.put_count-next.ensures in
-    let q = c.put_named-end.ensures in
-    let e = c.put_byte.ensures in
-    let x = c.args in (
-      puts_as (ap (λ (n : ℕ). bar (count_shown x.count) ++ (bar (shown n) ++ newline)) c.unused_count.ensures.0) (puts_more p.0 (puts_more q.0 e)),
-      omega (arith, p.1, q.1, e.next),
-    )
+    let e = ap (λ (n : ℕ). bar (count_shown c.args.count) ++ (bar (shown n) ++ newline)) c.unused_count.ensures.0 in
+    writes_as (omega arith) e (writes_more c.put_count.ensures (writes_more c.named.ensures c.byte.ensures))

@@ -1,24 +1,19 @@
 -- The parts in a row.
 -- Assumes nothing.
-use mathlib.Core.Path.{◌≡◌}
 use native.Mathlib.Omega.{arith}
 use borrow.Author.Tests.{eq-eqb, ne_eqb}
-use Rattle.text.proofs.LaidLaws.{puts_as, puts_more}
+use Rattle.text.proofs.LaidLaws.{writes_as, writes_more, writes_from}
 use Rattle.lines.proofs.Laws.{refused_one, refused_two}
 use Rattle.lines.proofs.refused_line.Goals as goal
-
-pub returns-then-r-eq10 : goal.returns-then-r-eq10
-returns-then-r-eq10 c =
-    let x = c.args in
-    let n = c.put_refusal-second.ensures in
-    let b = c.put_named-end.ensures in
-    let d = c.put_byte.ensures in
-    let h : x.r.number ≡ 10 = c.if-r-eq10.true in
-    (puts_as (refused_two x.r (eq-eqb x.r.number 10 h)) (puts_more n.0 (puts_more b.0 d)), omega (arith, n.1, b.1, d.next))
+use Rattle.lines.proofs.refused_line.Goals.{then-r-eq10, else-r-eq10}
 
 pub returns : goal.returns
 returns c =
-    let x = c.args in
-    let n = c.put_refusal-second.ensures in
-    let d = c.put_byte-2.ensures in
-    (puts_as (refused_one x.r (ne_eqb x.r.number 10 c.if-r-eq10.false)) (puts_more n.0 d), omega (arith, n.1, d.next))
+    let r = c.args.r in
+    let n = c.refusal.ensures in
+    elim c.if-r-eq10.branch [
+      | then-r-eq10 w ↦
+          let end = writes_more w.named.ensures (writes_from w.text-is c.byte.ensures) in
+          writes_as (omega arith) (refused_two r (eq-eqb r.number 10 w.if-r-eq10.true)) (writes_more n end)
+      | else-r-eq10 w ↦ writes_as (omega arith) (refused_one r (ne_eqb r.number 10 w.if-r-eq10.false)) (writes_more n (writes_from w.text-is c.byte.ensures))
+    ]

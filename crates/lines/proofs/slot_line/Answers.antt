@@ -5,8 +5,8 @@ use native.Mathlib.Omega.{arith}
 use borrow.Author.Tests.{not-true, not-false}
 use Rattle.promises.specs.Volumes.FreeLaws.{has_label_lem}
 use Rattle.volume.proofs.NumberLaws.{slotted_of}
-use Rattle.text.proofs.LaidLaws.{puts_as, puts_none}
-use Rattle.lines.proofs.Laws.{no_line, a_line}
+use Rattle.text.proofs.LaidLaws.{writes_as, writes_none}
+use Rattle.lines.proofs.Laws.{no_line}
 use Rattle.lines.proofs.slot_line.Goals as goal
 
 pub is_label-requires : goal.is_label-requires
@@ -19,7 +19,7 @@ pub returns-then-not-is_label : goal.returns-then-not-is_label
 returns-then-not-is_label c =
     let x = c.args in
     let l = sym c.is_label.ensures ∙ not-true c.is_label.result c.if-not-is_label.true-raw in
-    (puts_as (no_line x.g x.image.now x.slot l) (puts_none x.out.now x.at), omega arith)
+    writes_as (omega arith) (no_line x.g x.image.now x.slot l) (writes_none x.text.now)
 
 pub label_line-requires : goal.label_line-requires
 label_line-requires c =
@@ -27,10 +27,3 @@ label_line-requires c =
     let p = c.requires in
     let l = sym c.is_label.ensures ∙ not-false c.is_label.result c.if-not-is_label.false-raw in
     (p.0, p.1, has_label_lem x.g x.image.now x.slot p.2 p.3 l)
-
-pub returns : goal.returns
-returns c =
-    let x = c.args in
-    let l = sym c.is_label.ensures ∙ not-false c.is_label.result c.if-not-is_label.false-raw in
-    let p = c.label_line.ensures in
-    (puts_as (a_line x.g x.image.now x.slot l) p.0, p.1)

@@ -17,17 +17,17 @@ pub hex_byte-requires-3 : goal.hex_byte-requires-3
 hex_byte-requires-3 c =
     (search rules, (vol1_small c.args.v.now c.requires.1).d)
 
-pub narrow-requires : goal.narrow-requires
-narrow-requires c =
+pub overflow_cast-result : goal.overflow_cast-result
+overflow_cast-result c =
     omega (arith, (vol1_small c.args.v.now c.requires.1).k, c.kind_in-k.ensures)
 
 pub record_size-requires : goal.record_size-requires
 record_size-requires c =
     omega (arith, (vol1_small c.args.v.now c.requires.1).k, c.kind_in-k.ensures)
 
-pub narrow-requires-2 : goal.narrow-requires-2
-narrow-requires-2 c =
-    omega (arith, (vol1_small c.args.v.now c.requires.1).s, c.hex_1.ensures)
+pub hex_byte-requires-4 : goal.hex_byte-requires-4
+hex_byte-requires-4 c =
+    (search rules, (vol1_small c.args.v.now c.requires.1).s)
 
 pub returns : goal.returns
 unfolding bare

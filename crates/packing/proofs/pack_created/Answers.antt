@@ -7,27 +7,27 @@ use Rattle.packing.specs.Room.{CreatedFits}
 use Rattle.packing.proofs.pack_created.Goals as goal
 
 pub overflow_mul-result : goal.overflow_mul-result
-overflow_mul-result c = omega (arith, subst CreatedFits c.in-Placed.is c.requires)
+overflow_mul-result c = omega (arith, subst CreatedFits c.in-Ok.is c.requires)
 
-pub overflow_mul-result-in-Placed : goal.overflow_mul-result-in-Placed
-overflow_mul-result-in-Placed c = omega (arith, subst CreatedFits c.in-Placed.is c.requires)
+pub overflow_mul-result-in-Ok : goal.overflow_mul-result-in-Ok
+overflow_mul-result-in-Ok c = omega (arith, subst CreatedFits c.in-Ok.is c.requires)
 
-pub overflow_mul-result-in-Placed-2 : goal.overflow_mul-result-in-Placed-2
-overflow_mul-result-in-Placed-2 c = omega (arith, subst CreatedFits c.in-Placed.is c.requires)
+pub overflow_mul-result-in-Ok-2 : goal.overflow_mul-result-in-Ok-2
+overflow_mul-result-in-Ok-2 c = omega (arith, subst CreatedFits c.in-Ok.is c.requires)
 
 pub overflow_add-result : goal.overflow_add-result
-overflow_add-result c = omega (arith, subst CreatedFits c.in-Placed.is c.requires)
+overflow_add-result c = omega (arith, subst CreatedFits c.in-Ok.is c.requires)
 
-pub overflow_add-result-in-Placed : goal.overflow_add-result-in-Placed
-overflow_add-result-in-Placed c = omega (arith, subst CreatedFits c.in-Placed.is c.requires)
+pub overflow_add-result-in-Ok : goal.overflow_add-result-in-Ok
+overflow_add-result-in-Ok c = omega (arith, subst CreatedFits c.in-Ok.is c.requires)
 
-pub overflow_add-result-in-Placed-2 : goal.overflow_add-result-in-Placed-2
-overflow_add-result-in-Placed-2 c = omega (arith, subst CreatedFits c.in-Placed.is c.requires)
+pub overflow_add-result-in-Ok-2 : goal.overflow_add-result-in-Ok-2
+overflow_add-result-in-Ok-2 c = omega (arith, subst CreatedFits c.in-Ok.is c.requires)
 
-pub returns-in-Uncreated : goal.returns-in-Uncreated
+pub returns-in-Err : goal.returns-in-Err
 unfolding packed_created
-returns-in-Uncreated c = c.pack_refusal.ensures ∙ sym (ap packed_created c.in-Uncreated.is)
+returns-in-Err c = c.pack_refusal.ensures ∙ sym (ap packed_created c.in-Err.is)
 
-pub returns-in-Placed : goal.returns-in-Placed
+pub returns-in-Ok : goal.returns-in-Ok
 unfolding packed_created
-returns-in-Placed c = sym (ap packed_created c.in-Placed.is)
+returns-in-Ok c = sym (ap packed_created c.in-Ok.is)

@@ -7,15 +7,15 @@ use Rattle.packing.specs.Room.{FoundFits}
 use Rattle.packing.proofs.pack_found.Goals as goal
 
 pub overflow_mul-result : goal.overflow_mul-result
-overflow_mul-result c = omega (arith, subst FoundFits c.in-At.is c.requires)
+overflow_mul-result c = omega (arith, subst FoundFits c.in-Ok.is c.requires)
 
 pub overflow_add-result : goal.overflow_add-result
-overflow_add-result c = omega (arith, subst FoundFits c.in-At.is c.requires)
+overflow_add-result c = omega (arith, subst FoundFits c.in-Ok.is c.requires)
 
-pub returns-in-Unfound : goal.returns-in-Unfound
+pub returns-in-Err : goal.returns-in-Err
 unfolding packed_found
-returns-in-Unfound c = c.pack_refusal.ensures ∙ sym (ap packed_found c.in-Unfound.is)
+returns-in-Err c = c.pack_refusal.ensures ∙ sym (ap packed_found c.in-Err.is)
 
-pub returns-in-At : goal.returns-in-At
+pub returns-in-Ok : goal.returns-in-Ok
 unfolding packed_found
-returns-in-At c = sym (ap packed_found c.in-At.is)
+returns-in-Ok c = sym (ap packed_found c.in-Ok.is)

@@ -5,9 +5,9 @@ use Rattle.standard.specs.Packed.{packed_judged}
 use Rattle.packing.proofs.Laws.{volume_packed}
 use Rattle.packing.proofs.pack_judged.Goals as goal
 
-pub returns-in-Refused : goal.returns-in-Refused
+pub returns-in-Err : goal.returns-in-Err
 unfolding packed_judged
-returns-in-Refused c = c.pack_refusal.ensures ∙ sym (ap packed_judged c.in-Refused.is)
+returns-in-Err c = c.pack_refusal.ensures ∙ sym (ap packed_judged c.in-Err.is)
 
-pub returns-in-Volume : goal.returns-in-Volume
-returns-in-Volume c = search volume_packed
+pub returns-in-Ok : goal.returns-in-Ok
+returns-in-Ok c = search volume_packed

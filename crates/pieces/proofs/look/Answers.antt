@@ -15,13 +15,3 @@ pub returns-in-Fixed : goal.returns-in-Fixed
 returns-in-Fixed c =
     let x = c.args in
     c.look_f.ensures ∙ (look_fixed x.r x.n (stream x.g x.image.now x.c x.i) (omega arith) ∙ ap (λ (f : Form). seen_of (look_in (format_for f) x.r x.blocked x.o (take x.n (stream x.g x.image.now x.c x.i)))) (sym c.in-Fixed.is))
-
-pub returns-in-Variable : goal.returns-in-Variable
-returns-in-Variable c =
-    let x = c.args in
-    c.look_v.ensures ∙ ap (λ (f : Form). seen_of (look_in (format_for f) x.r x.blocked x.o (take x.n (stream x.g x.image.now x.c x.i)))) (sym c.in-Variable.is)
-
-pub returns-in-Spanned : goal.returns-in-Spanned
-returns-in-Spanned c =
-    let x = c.args in
-    c.look_s.ensures ∙ ap (λ (f : Form). seen_of (look_in (format_for f) x.r x.blocked x.o (take x.n (stream x.g x.image.now x.c x.i)))) (sym c.in-Spanned.is)

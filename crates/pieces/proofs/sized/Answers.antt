@@ -8,13 +8,13 @@ pub returns-in_default : goal.returns-in_default
 returns-in_default c = part_none _ _ _ _ _ c.in_default.is
 
 pub returns-then-z-low : goal.returns-then-z-low
-returns-then-z-low c = part_small _ _ _ _ _ _ c.in-Number.is (omega arith)
+returns-then-z-low c = part_small _ _ _ _ _ _ c.in-Some.is (omega arith)
 
 pub returns-then-high-z : goal.returns-then-high-z
-returns-then-high-z c = part_over _ _ _ _ _ _ c.in-Number.is (omega arith) (omega arith)
+returns-then-high-z c = part_over _ _ _ _ _ _ c.in-Some.is (omega arith) (omega arith)
 
 pub returns-then-n-z : goal.returns-then-n-z
-returns-then-n-z c = part_large _ _ _ _ _ _ c.in-Number.is (omega arith) (omega arith) (omega arith)
+returns-then-n-z c = part_large _ _ _ _ _ _ c.in-Some.is (omega arith) (omega arith) (omega arith)
 
 pub returns : goal.returns
-returns c = part_right _ _ _ _ _ _ c.in-Number.is (omega arith) (omega arith) (omega arith)
+returns c = part_right _ _ _ _ _ _ c.in-Some.is (omega arith) (omega arith) (omega arith)

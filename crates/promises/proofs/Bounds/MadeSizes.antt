@@ -1,6 +1,6 @@
 -- Request 2026-01: how large the numbers in the answers to a create and a delete can be.
 -- Assumes nothing.
-use Rattle.std.specs.Prelude.{ℕ, ◌<◌, ◌≤◌, ◌≡◌, List, map}
+use Rattle.std.specs.Prelude.{ℕ, ◌<◌, ◌≤◌, ◌≡◌, List, map, Result, Option, Ok, Err, Some, None}
 use Rattle.std.proofs.Math.Path.{refl, subst}
 use Rattle.std.proofs.Common.{arith}
 use Rattle.standard.specs.Refusals.{refuse, refuse_at, in_order}
@@ -10,19 +10,11 @@ use Rattle.standard.specs.Labels.{hdr1_rules, end_of}
 use Rattle.standard.specs.Judgement.{judged}
 use Rattle.standard.specs.Files.{extent_size}
 use Rattle.standard.specs.Finding.{found_from, found}
-use Rattle.standard.specs.Creating.{name_in, bracket, draft, proposed_rules, proposal_fault, name_used, no_room, lowest_run, refusal12for, refusal29, create_refusal, created, delete_list, deleted}
-use Rattle.standard.specs.declared.Run.{Run}
-use Rattle.standard.specs.declared.Run.TheVariants.{NoRun, RunAt}
+use Rattle.standard.specs.Creating.{name_in, bracket, draft, proposed_rules, proposal_fault, name_used, no_room, lowest_run, refusal12for, refusal29, create_refusal, created, delete_list, deleted, file_made}
 use Rattle.standard.specs.declared.Geometry.{Geometry}
 use Rattle.standard.specs.declared.Address.{Address}
 use Rattle.standard.specs.declared.Refusal.{Refusal}
-use Rattle.standard.specs.declared.Checked.TheVariants.{Stopped}
-use Rattle.standard.specs.declared.Judged.{Judged}
-use Rattle.standard.specs.declared.Judged.TheVariants.{Refused, Volume}
-use Rattle.standard.specs.declared.Counted.TheVariants.{Uncounted, Count}
 use Rattle.standard.specs.declared.Found.{Found}
-use Rattle.standard.specs.declared.Found.TheVariants.{Unfound, At}
-use Rattle.standard.specs.declared.Created.TheVariants.{Uncreated, Placed}
 use Rattle.promises.specs.Ground.Basics.{never}
 use Rattle.promises.specs.Images.AddressLaws.{parts, rank_lt}
 use Rattle.promises.specs.Volumes.AcceptedLaws.{label_in_range}
@@ -37,29 +29,29 @@ unfolding proposal_fault proposed_rules hdr1_rules
 proposal_position g w n = fault_below (map (bracket w n (draft w)) (hdr1_rules g (draft w))) refl
 
 -- a refusal: its number is in the table, its places have room
-module _ (image : List ℕ) (g : Geometry) (j : judged image ≡ Volume g) where
-  name_small : (w : List ℕ) (r : Refusal) → refusal12for g image w ≡ Stopped r → Small r
+module _ (image : List ℕ) (g : Geometry) (j : judged image ≡ Ok g) where
+  name_small : (w : List ℕ) (r : Refusal) → refusal12for g image w ≡ Err r → Small r
   unfolding found
   name_small w r h = on (found_from g image (name_in w) (slot_count g) 1) refl h
     where
-      on : (f : Found) → found_from g image (name_in w) (slot_count g) 1 ≡ f → name_used f ≡ Stopped r → Small r
-      on (Unfound q) e k = never (cc)
-      on (At slot offset) e k =
-          let f : found image (name_in w) ≡ At slot offset = rw j e in
-          let l = find_low image (name_in w) slot offset f in
-          let s : refuse 12 slot ≡ r = cc in
-          subst Small s (small_one 12 slot (omega arith) (omega arith) (omega (arith, l.0)))
+      on : (f : Result Found Refusal) → found_from g image (name_in w) (slot_count g) 1 ≡ f → name_used f ≡ Err r → Small r
+      on (Err q) e k = never (cc)
+      on (Ok f) e k =
+          let h : found image (name_in w) ≡ Ok f = rw j e in
+          let l = find_low image (name_in w) f.slot f.offset h in
+          let s : refuse 12 f.slot ≡ r = cc in
+          subst Small s (small_one 12 f.slot (omega arith) (omega arith) (omega (arith, l.0)))
 
-  room_small : (n : ℕ) (r : Refusal) → refusal29 g image n ≡ Stopped r → Small r
+  room_small : (n : ℕ) (r : Refusal) → refusal29 g image n ≡ Err r → Small r
   room_small n r h = on (lowest_run g image n) h
     where
-      on : (x : Run) → no_room x ≡ Stopped r → Small r
-      on NoRun k =
+      on : (x : Option ℕ) → no_room x ≡ Err r → Small r
+      on None k =
           let s : refuse 29 0 ≡ r = cc in
           subst Small s (small_one 29 0 (omega arith) (omega arith) (omega arith))
-      on (RunAt i) k = never (cc)
+      on (Some i) k = never (cc)
 
-  create_on_small : (w : List ℕ) (n : ℕ) (r : Refusal) → create_refusal g image w n ≡ Stopped r → Small r
+  create_on_small : (w : List ℕ) (n : ℕ) (r : Refusal) → create_refusal g image w n ≡ Err r → Small r
   unfolding create_refusal
   create_on_small w n r h =
       let p = proposal_position g w n in
@@ -70,7 +62,7 @@ module _ (image : List ℕ) (g : Geometry) (j : judged image ≡ Volume g) where
       (λ _ h29. by_order _ _ r h29 (room_small n r)
       (λ _ none. by_none r none))))
 
-  delete_on_small : (slot : ℕ) (r : Refusal) → in_order (delete_list g image slot) ≡ Stopped r → Small r
+  delete_on_small : (slot : ℕ) (r : Refusal) → in_order (delete_list g image slot) ≡ Err r → Small r
   delete_on_small slot r h =
       by_order _ _ r h (thirteen_small image g j slot r)
       (λ at h14. let l = labelled image g j slot at in
@@ -91,7 +83,7 @@ pub record CreatedSmall (slot : ℕ) (start : Address) : Type 0 where
   pub side : start.side < 2
   pub sector : start.sector ≤ 26
 
-placed_small : (image : List ℕ) (g : Geometry) (j : judged image ≡ Volume g) (w : List ℕ) (n slot : ℕ) (start : Address) → Creates image g j w n slot start
+placed_small : (image : List ℕ) (g : Geometry) (j : judged image ≡ Ok g) (w : List ℕ) (n slot : ℕ) (start : Address) → Creates image g j w n slot start
     → CreatedSmall slot start
 placed_small image g j w n slot start c =
     let k = numbers_of_lem image g j in
@@ -106,33 +98,33 @@ placed_small image g j w n slot start c =
     }
 
 module _ (image : List ℕ) where
-  pub create_small : (w : List ℕ) (n : ℕ) (r : Refusal) → created image w n ≡ Uncreated r → Small r
+  pub create_small : (w : List ℕ) (n : ℕ) (r : Refusal) → created image w n ≡ Err r → Small r
   create_small w n r h = on (judged image) refl
     where
-      on : (v : Judged) → judged image ≡ v → Small r
-      on (Refused q) j = let e = volume_stops_create image w n q j in let same : q ≡ r = cc in subst Small same (volume_small image q j)
-      on (Volume g) j = create_on_small image g j w n r ((create_refused image g j w n r).0 h)
+      on : (v : Result Geometry Refusal) → judged image ≡ v → Small r
+      on (Err q) j = let e = volume_stops_create image w n q j in let same : q ≡ r = cc in subst Small same (volume_small image q j)
+      on (Ok g) j = create_on_small image g j w n r ((create_refused image g j w n r).0 h)
 
-  pub create_low : (w : List ℕ) (n slot : ℕ) (start : Address) → created image w n ≡ Placed slot start → CreatedSmall slot start
+  pub create_low : (w : List ℕ) (n slot : ℕ) (start : Address) → created image w n ≡ file_made slot start → CreatedSmall slot start
   create_low w n slot start h = on (judged image) refl
     where
-      on : (v : Judged) → judged image ≡ v → CreatedSmall slot start
-      on (Refused q) j = let e = volume_stops_create image w n q j in never (cc)
-      on (Volume g) j = placed_small image g j w n slot start ((creates_exactly image g j w n slot start).0 h)
+      on : (v : Result Geometry Refusal) → judged image ≡ v → CreatedSmall slot start
+      on (Err q) j = let e = volume_stops_create image w n q j in never (cc)
+      on (Ok g) j = placed_small image g j w n slot start ((creates_exactly image g j w n slot start).0 h)
 
-  pub delete_small : (slot : ℕ) (r : Refusal) → deleted image slot ≡ Uncounted r → Small r
+  pub delete_small : (slot : ℕ) (r : Refusal) → deleted image slot ≡ Err r → Small r
   delete_small slot r h = on (judged image) refl
     where
-      on : (v : Judged) → judged image ≡ v → Small r
-      on (Refused q) j = let e = volume_stops_delete image slot q j in let same : q ≡ r = cc in subst Small same (volume_small image q j)
-      on (Volume g) j = delete_on_small image g j slot r (first_order (delete_list g image slot) r ((delete_first image g j slot r).0 h))
+      on : (v : Result Geometry Refusal) → judged image ≡ v → Small r
+      on (Err q) j = let e = volume_stops_delete image slot q j in let same : q ≡ r = cc in subst Small same (volume_small image q j)
+      on (Ok g) j = delete_on_small image g j slot r (first_order (delete_list g image slot) r ((delete_first image g j slot r).0 h))
 
   -- "freed ≤ 4,992"
-  pub delete_few : (slot n : ℕ) → deleted image slot ≡ Count n → n ≤ 4992
+  pub delete_few : (slot n : ℕ) → deleted image slot ≡ Ok n → n ≤ 4992
   delete_few slot n h = on (judged image) refl
     where
-      on : (v : Judged) → judged image ≡ v → n ≤ 4992
-      on (Refused q) j = let e = volume_stops_delete image slot q j in never (cc)
-      on (Volume g) j =
+      on : (v : Result Geometry Refusal) → judged image ≡ v → n ≤ 4992
+      on (Err q) j = let e = volume_stops_delete image slot q j in never (cc)
+      on (Ok g) j =
           let d = (deletes_exactly image g j slot n).0 h in
           omega (arith, d.1, extent_few image g j slot d.0)

@@ -1,7 +1,7 @@
 -- THE ONE RETURNED NUMBER IS EXACT: a caller in C who takes it apart, as include/galzeranta.h does, has the answer of the definitions again, all of it. For
 -- a reader who proves nothing: the definitions below are the caller's side, the theorems under EXACT say that nothing is lost on the way.
 -- Assumes nothing.
-use Rattle.std.specs.Prelude.{ℕ, ◌+◌, ◌*◌, ◌/◌, ◌%◌, ◌^◌, ◌<◌, ◌≡◌, Bool, false, cond, List, eqb}
+use Rattle.std.specs.Prelude.{ℕ, ◌+◌, ◌*◌, ◌/◌, ◌%◌, ◌^◌, ◌<◌, ◌≡◌, Bool, false, cond, List, eqb, Result, Ok, Err}
 use Rattle.std.proofs.Math.Path.{refl, ap}
 use Rattle.std.proofs.Common.{sym, ◌∙◌, mod-eq_of_lt}
 use Rattle.std.proofs.Math.Bool.{true}
@@ -10,30 +10,22 @@ use Rattle.std.proofs.Math.Nat.{add-mul-div_right, add-mul-mod_self_right, div-e
 use borrow.Author.Tests.{lt-ltb, eq-eqb, ne_eqb}
 use Rattle.standard.specs.Packed.{most, packed_refusal, packed_judged, packed_found, packed_counted, packed_place, packed_answer, packed_written, packed_created}
 use Rattle.standard.specs.Judgement.{judged}
-use Rattle.standard.specs.Finding.{found}
+use Rattle.standard.specs.Finding.{found, label_found}
 use Rattle.standard.specs.Free.{free_count}
 use Rattle.standard.specs.Files.{counted}
 use Rattle.standard.specs.Records.{Mode}
 use Rattle.standard.specs.Reading.{read_answer}
 use Rattle.standard.specs.Writing.{written}
-use Rattle.standard.specs.Creating.{created, deleted}
+use Rattle.standard.specs.Creating.{created, deleted, file_made}
 use Rattle.standard.specs.Addresses.{address_number}
 use Rattle.standard.specs.declared.Address.{Address}
 use Rattle.standard.specs.declared.Created.{Created}
-use Rattle.standard.specs.declared.Created.TheVariants.{Uncreated, Placed}
 use Rattle.standard.specs.declared.Geometry.{Geometry}
 use Rattle.standard.specs.declared.Refusal.{Refusal}
 use Rattle.standard.specs.declared.Place.{Place}
-use Rattle.standard.specs.declared.Judged.{Judged}
-use Rattle.standard.specs.declared.Judged.TheVariants.{Refused, Volume}
 use Rattle.standard.specs.declared.Found.{Found}
-use Rattle.standard.specs.declared.Found.TheVariants.{Unfound, At}
-use Rattle.standard.specs.declared.Counted.{Counted}
-use Rattle.standard.specs.declared.Counted.TheVariants.{Uncounted, Count}
 use Rattle.standard.specs.declared.Answer.{Answer}
-use Rattle.standard.specs.declared.Answer.TheVariants.{Unanswered, Record as RecordOf, Gap, End}
-use Rattle.standard.specs.declared.Written.{Written}
-use Rattle.standard.specs.declared.Written.TheVariants.{Unwritten, Blocks}
+use Rattle.standard.specs.declared.Answer.TheVariants.{Record as RecordOf, Gap, End}
 use Rattle.promises.specs.Images.AddressLaws.{address_eq}
 use Rattle.promises.specs.Volumes.VolumeNumbers.{numbers_of_lem, defects_of}
 use Rattle.promises.specs.Bounds.Sizes.{Small, volume_small, find_small, count_small, free_small, find_low, count_few, free_low}
@@ -97,7 +89,7 @@ record Room (g : Geometry) : Type 0 where
   first_defect : g.d1 < 2 ^ 8
   second_defect : g.d2 < 2 ^ 8
 
-volume_room : (image : List ℕ) (g : Geometry) → judged image ≡ Volume g → Room g
+volume_room : (image : List ℕ) (g : Geometry) → judged image ≡ Ok g → Room g
 volume_room image g j =
     let n = numbers_of_lem image g j in
     let d = defects_of image g j in
@@ -119,10 +111,10 @@ same_geometry : (L I D k P S d1 d2 L' I' D' k' P' S' d1' d2' : ℕ)
     → geometry_of L I D k P S d1 d2 ≡ geometry_of L' I' D' k' P' S' d1' d2'
 same_geometry L I D k P S d1 d2 L' I' D' k' P' S' d1' d2' a b c d e f h i = cc
 
-volume_back : (g : Geometry) → Room g → g.P ≡ 128 * 2 ^ g.k → geometry_back (packed_judged (Volume g)) ≡ g
+volume_back : (g : Geometry) → Room g → g.P ≡ 128 * 2 ^ g.k → geometry_back (packed_judged (Ok g)) ≡ g
 unfolding geometry_back packed_judged
 volume_back g m p =
-    let n = packed_judged (Volume g) in
+    let n = packed_judged (Ok g) in
     let above3 = g.k + g.S * 2 ^ 4 + g.d1 * 2 ^ 8 + g.d2 * 2 ^ 16 in
     let below4 = g.L + g.I * 2 ^ 8 + g.D * 2 ^ 16 + g.k * 2 ^ 24 in
     let k = between 24 4 n (g.L + g.I * 2 ^ 8 + g.D * 2 ^ 16) g.k (g.S + g.d1 * 2 ^ 4 + g.d2 * 2 ^ 12) (omega arith) (omega (arith, m)) m.size in
@@ -136,34 +128,34 @@ volume_back g m p =
     (between 32 8 n (below4 + g.S * 2 ^ 28) g.d1 g.d2 (omega arith) (omega (arith, m)) m.first_defect)
     (between 40 8 n (below4 + g.S * 2 ^ 28 + g.d1 * 2 ^ 32) g.d2 0 (omega arith) (omega (arith, m)) m.second_defect)
 
-volume_code : (g : Geometry) → Room g → is_done (packed_judged (Volume g)) ≡ true
+volume_code : (g : Geometry) → Room g → is_done (packed_judged (Ok g)) ≡ true
 unfolding packed_judged
-volume_code g m = eq-eqb (code_of (packed_judged (Volume g))) 0 (omega (arith, m))
+volume_code g m = eq-eqb (code_of (packed_judged (Ok g))) 0 (omega (arith, m))
 
 -- ---- what is found, and a count
-at_back : (slot offset : ℕ) → slot < 2 ^ 32 → offset < 2 ^ 24 → found_back (packed_found (At slot offset)) ≡ At slot offset
+at_back : (slot offset : ℕ) → slot < 2 ^ 32 → offset < 2 ^ 24 → found_back (packed_found (label_found slot offset)) ≡ label_found slot offset
 unfolding packed_found
 at_back slot offset s o =
-    let n = packed_found (At slot offset) in
+    let n = packed_found (label_found slot offset) in
     let done : is_done n ≡ true = eq-eqb (code_of n) 0 (omega arith) in
     let a : bits 24 32 n ≡ slot = between 24 32 n offset slot 0 (omega arith) o s in
     let b : bits 0 24 n ≡ offset = between 0 24 n 0 offset slot (omega arith) (omega arith) o in
     rw done (cc)
 
-count_back : (n : ℕ) → n < 2 ^ 56 → counted_back (packed_counted (Count n)) ≡ Count n
+count_back : (n : ℕ) → n < 2 ^ 56 → counted_back (packed_counted (Ok n)) ≡ Ok n
 unfolding packed_counted
 count_back n h =
     let done : is_done n ≡ true = eq-eqb (code_of n) 0 (omega arith) in
     let a : bits 0 56 n ≡ n = omega arith in
-    rw done (ap Count a)
+    rw done (ap Ok a)
 
-unfound_back : (r : Refusal) → Small r → found_back (packed_found (Unfound r)) ≡ Unfound r
+unfound_back : (r : Refusal) → Small r → found_back (packed_found (Err r)) ≡ Err r
 unfolding packed_found
-unfound_back r s = rw (refusal_code r s).1 (ap Unfound (refusal_back_lem r s))
+unfound_back r s = rw (refusal_code r s).1 (ap Err (refusal_back_lem r s))
 
-uncounted_back : (r : Refusal) → Small r → counted_back (packed_counted (Uncounted r)) ≡ Uncounted r
+uncounted_back : (r : Refusal) → Small r → counted_back (packed_counted (Err r)) ≡ Err r
 unfolding packed_counted
-uncounted_back r s = rw (refusal_code r s).1 (ap Uncounted (refusal_back_lem r s))
+uncounted_back r s = rw (refusal_code r s).1 (ap Err (refusal_back_lem r s))
 
 -- ---- a reading's answer, and a write's
 mark_back : (t : Bool) → eqb (cond t 1 0) 1 ≡ t
@@ -199,30 +191,30 @@ place_low pl s = omega (arith, s, mark_low pl.mark)
 code_is : (n code low : ℕ) → n ≡ code * 2 ^ 56 + low → low < 2 ^ 56 → code < 2 ^ 8 → code_of n ≡ code
 code_is n code low e l h = between 56 8 n low code 0 (omega arith) l h
 
-answer_back_lem : (a : Answer) → AnswerSmall a → answer_back (packed_answer a) ≡ a
+answer_back_lem : (a : Result Answer Refusal) → AnswerSmall a → answer_back (packed_answer a) ≡ a
 unfolding packed_answer
-answer_back_lem (Unanswered r) s =
+answer_back_lem (Err r) s =
     let c = refusal_code r s in
     let g : eqb (code_of (packed_refusal r)) 128 ≡ false = ne_eqb (code_of (packed_refusal r)) 128 (omega (arith, c.0, s.number_high)) in
     let e : eqb (code_of (packed_refusal r)) 129 ≡ false = ne_eqb (code_of (packed_refusal r)) 129 (omega (arith, c.0, s.number_high)) in
-    rw (c.1, g, e) (ap Unanswered (refusal_back_lem r s))
-answer_back_lem (RecordOf k pl) s =
+    rw (c.1, g, e) (ap Err (refusal_back_lem r s))
+answer_back_lem (Ok (RecordOf k pl)) s =
     let n = k * 2 ^ 32 + packed_place pl in
     let low = place_low pl s.1 in
     let c : code_of n ≡ 0 = code_is n 0 n (omega arith) (omega (arith, s.0)) (omega arith) in
     let a : bits 32 24 n ≡ k = between 32 24 n (packed_place pl) k 0 (omega arith) low s.0 in
     let b = place_back_lem n k pl (omega arith) s.1 in
     rw (eq-eqb (code_of n) 0 c) (cc)
-answer_back_lem (Gap pl) s =
+answer_back_lem (Ok (Gap pl)) s =
     let n = 128 * 2 ^ 56 + packed_place pl in
     let c : code_of n ≡ 128 = code_is n 128 (packed_place pl) (omega arith) (omega (arith, place_low pl s)) (omega arith) in
     let b = place_back_lem n (128 * 2 ^ 24) pl (omega arith) s in
-    rw (ne_eqb (code_of n) 0 (omega arith), eq-eqb (code_of n) 128 c) (ap Gap b)
-answer_back_lem (End pl) s =
+    rw (ne_eqb (code_of n) 0 (omega arith), eq-eqb (code_of n) 128 c) (ap (λ (next : Place). Ok (Gap next)) b)
+answer_back_lem (Ok (End pl)) s =
     let n = 129 * 2 ^ 56 + packed_place pl in
     let c : code_of n ≡ 129 = code_is n 129 (packed_place pl) (omega arith) (omega (arith, place_low pl s)) (omega arith) in
     let b = place_back_lem n (129 * 2 ^ 24) pl (omega arith) s in
-    rw (ne_eqb (code_of n) 0 (omega arith), ne_eqb (code_of n) 128 (omega arith), eq-eqb (code_of n) 129 c) (ap End b)
+    rw (ne_eqb (code_of n) 0 (omega arith), ne_eqb (code_of n) 128 (omega arith), eq-eqb (code_of n) 129 c) (ap (λ (next : Place). Ok (End next)) b)
 
 -- ---- a file created
 digits_back : (c s n N : ℕ) → s < 10 → n < 100 → N ≡ c * 1000 + s * 100 + n → (N / 1000 ≡ c) × (N / 100 % 10 ≡ s) × (N % 100 ≡ n)
@@ -235,19 +227,19 @@ address_back_lem a s n =
     address_eq _ a p.0 p.1 p.2
 
 placed_back : (slot : ℕ) (a : Address) → slot < 2 ^ 32 → address_number a < 2 ^ 24 → a.side < 10 → a.sector < 100
-    → created_back (packed_created (Placed slot a)) ≡ Placed slot a
+    → created_back (packed_created (file_made slot a)) ≡ file_made slot a
 unfolding packed_created
 placed_back slot a l m s k =
-    let n = packed_created (Placed slot a) in
+    let n = packed_created (file_made slot a) in
     let done : is_done n ≡ true = eq-eqb (code_of n) 0 (omega arith) in
     let x : bits 24 32 n ≡ slot = between 24 32 n (address_number a) slot 0 (omega arith) m l in
     let y : bits 0 24 n ≡ address_number a = between 0 24 n 0 (address_number a) slot (omega arith) (omega arith) m in
     let z : address_back (bits 0 24 n) ≡ a = ap address_back y ∙ address_back_lem a s k in
     rw done (cc)
 
-uncreated_back : (r : Refusal) → Small r → created_back (packed_created (Uncreated r)) ≡ Uncreated r
+uncreated_back : (r : Refusal) → Small r → created_back (packed_created (Err r)) ≡ Err r
 unfolding packed_created
-uncreated_back r s = rw (refusal_code r s).1 (ap Uncreated (refusal_back_lem r s))
+uncreated_back r s = rw (refusal_code r s).1 (ap Err (refusal_back_lem r s))
 
 -- ======== EXACT
 -- The caller has the definition's answer again, of any image, name and slot.
@@ -256,38 +248,38 @@ module _ (image : List ℕ) where
   unfolding packed_judged
   judge_exact = on (judged image) refl
     where
-      on : (v : Judged) → judged image ≡ v → judged_back (packed_judged v) ≡ v
-      on (Refused r) j = let s = volume_small image r j in rw (refusal_code r s).1 (ap Refused (refusal_back_lem r s))
-      on (Volume g) j =
+      on : (v : Result Geometry Refusal) → judged image ≡ v → judged_back (packed_judged v) ≡ v
+      on (Err r) j = let s = volume_small image r j in rw (refusal_code r s).1 (ap Err (refusal_back_lem r s))
+      on (Ok g) j =
           let m = volume_room image g j in
-          rw (volume_code g m) (ap Volume (volume_back g m (numbers_of_lem image g j).size_is))
+          rw (volume_code g m) (ap Ok (volume_back g m (numbers_of_lem image g j).size_is))
 
   -- of an accepted volume its numbers
-  pub numbers_exact : (g : Geometry) → judged image ≡ Volume g → geometry_back (packed_judged (judged image)) ≡ g
-  numbers_exact g j = ap (λ (v : Judged). geometry_back (packed_judged v)) j ∙ volume_back g (volume_room image g j) (numbers_of_lem image g j).size_is
+  pub numbers_exact : (g : Geometry) → judged image ≡ Ok g → geometry_back (packed_judged (judged image)) ≡ g
+  numbers_exact g j = ap (λ (v : Result Geometry Refusal). geometry_back (packed_judged v)) j ∙ volume_back g (volume_room image g j) (numbers_of_lem image g j).size_is
 
   pub find_exact : (name : List ℕ) → found_back (packed_found (found image name)) ≡ found image name
   find_exact name = on (found image name) refl
     where
-      on : (f : Found) → found image name ≡ f → found_back (packed_found f) ≡ f
-      on (Unfound r) e = unfound_back r (find_small image name r e)
-      on (At slot offset) e =
-          let l = find_low image name slot offset e in
-          at_back slot offset (omega (arith, l)) (omega (arith, l))
+      on : (f : Result Found Refusal) → found image name ≡ f → found_back (packed_found f) ≡ f
+      on (Err r) e = unfound_back r (find_small image name r e)
+      on (Ok f) e =
+          let l = find_low image name f.slot f.offset e in
+          at_back f.slot f.offset (omega (arith, l)) (omega (arith, l))
 
   pub count_exact : (slot : ℕ) → counted_back (packed_counted (counted image slot)) ≡ counted image slot
   count_exact slot = on (counted image slot) refl
     where
-      on : (c : Counted) → counted image slot ≡ c → counted_back (packed_counted c) ≡ c
-      on (Uncounted r) e = uncounted_back r (count_small image slot r e)
-      on (Count n) e = count_back n (omega (arith, count_few image slot n e))
+      on : (c : Result ℕ Refusal) → counted image slot ≡ c → counted_back (packed_counted c) ≡ c
+      on (Err r) e = uncounted_back r (count_small image slot r e)
+      on (Ok n) e = count_back n (omega (arith, count_few image slot n e))
 
   pub free_exact : counted_back (packed_counted (free_count image)) ≡ free_count image
   free_exact = on (free_count image) refl
     where
-      on : (c : Counted) → free_count image ≡ c → counted_back (packed_counted c) ≡ c
-      on (Uncounted r) e = uncounted_back r (free_small image r e)
-      on (Count n) e = count_back n (omega (arith, free_low image n e))
+      on : (c : Result ℕ Refusal) → free_count image ≡ c → counted_back (packed_counted c) ≡ c
+      on (Err r) e = uncounted_back r (free_small image r e)
+      on (Ok n) e = count_back n (omega (arith, free_low image n e))
 
   -- plain reading and salvage, from any place into any output
   pub read_exact : (m : Mode) (slot : ℕ) (pl : Place) (out : List ℕ)
@@ -300,33 +292,33 @@ module _ (image : List ℕ) where
   unfolding packed_written
   write_exact slot bodies lengths = on (written image slot bodies lengths) refl
     where
-      on : (w : Written) → written image slot bodies lengths ≡ w → written_back (packed_written w) ≡ capped_written w
-      on (Unwritten r) e =
+      on : (w : Result ℕ Refusal) → written image slot bodies lengths ≡ w → written_back (packed_written w) ≡ capped_written w
+      on (Err r) e =
           let s = write_small image slot bodies lengths r e in
-          ap written_back (packed_capped r) ∙ rw (refusal_code (capped r) s).1 (ap Unwritten (refusal_back_lem (capped r) s))
-      on (Blocks n) e =
+          ap written_back (packed_capped r) ∙ rw (refusal_code (capped r) s).1 (ap Err (refusal_back_lem (capped r) s))
+      on (Ok n) e =
           let few = write_few image slot bodies lengths n e in
           let done : is_done n ≡ true = eq-eqb (code_of n) 0 (omega arith) in
           let a : bits 0 56 n ≡ n = omega arith in
-          rw done (ap Blocks a)
+          rw done (ap Ok a)
 
 -- a create and a delete, of any image, bytes and numbers
 module _ (image : List ℕ) where
   pub create_exact : (w : List ℕ) (n : ℕ) → created_back (packed_created (created image w n)) ≡ created image w n
   create_exact w n = on (created image w n) refl
     where
-      on : (c : Created) → created image w n ≡ c → created_back (packed_created c) ≡ c
-      on (Uncreated r) e = uncreated_back r (create_small image w n r e)
-      on (Placed slot start) e =
-          let l = create_low image w n slot start e in
-          placed_back slot start (omega (arith, l.slot_low)) (omega (arith, l.number)) (omega (arith, l.side)) (omega (arith, l.sector))
+      on : (c : Result Created Refusal) → created image w n ≡ c → created_back (packed_created c) ≡ c
+      on (Err r) e = uncreated_back r (create_small image w n r e)
+      on (Ok c) e =
+          let l = create_low image w n c.slot c.start e in
+          placed_back c.slot c.start (omega (arith, l.slot_low)) (omega (arith, l.number)) (omega (arith, l.side)) (omega (arith, l.sector))
 
   pub delete_exact : (slot : ℕ) → counted_back (packed_counted (deleted image slot)) ≡ deleted image slot
   delete_exact slot = on (deleted image slot) refl
     where
-      on : (c : Counted) → deleted image slot ≡ c → counted_back (packed_counted c) ≡ c
-      on (Uncounted r) e = uncounted_back r (delete_small image slot r e)
-      on (Count n) e = count_back n (omega (arith, delete_few image slot n e))
+      on : (c : Result ℕ Refusal) → deleted image slot ≡ c → counted_back (packed_counted c) ≡ c
+      on (Err r) e = uncounted_back r (delete_small image slot r e)
+      on (Ok n) e = count_back n (omega (arith, delete_few image slot n e))
 
 -- The code alone: the number of the refusal, which is never 0, exactly where there is one.
 abbrev pub Refuses : ℕ → Refusal → Type 0
@@ -336,54 +328,54 @@ refuses : (r : Refusal) → Small r → Refuses (packed_refusal r) r
 refuses r s = ((refusal_code r s).0, s.number_low, omega (arith, s.number_high))
 
 module _ (image : List ℕ) where
-  pub judge_done : (g : Geometry) → judged image ≡ Volume g → code_of (packed_judged (judged image)) ≡ 0
+  pub judge_done : (g : Geometry) → judged image ≡ Ok g → code_of (packed_judged (judged image)) ≡ 0
   unfolding packed_judged
   judge_done g j = let m = volume_room image g j in rw j (omega (arith, m))
 
-  pub judge_refused : (r : Refusal) → judged image ≡ Refused r → Refuses (packed_judged (judged image)) r
+  pub judge_refused : (r : Refusal) → judged image ≡ Err r → Refuses (packed_judged (judged image)) r
   unfolding packed_judged
   judge_refused r j = rw j (refuses r (volume_small image r j))
 
-  pub find_done : (name : List ℕ) (slot offset : ℕ) → found image name ≡ At slot offset → code_of (packed_found (found image name)) ≡ 0
+  pub find_done : (name : List ℕ) (slot offset : ℕ) → found image name ≡ label_found slot offset → code_of (packed_found (found image name)) ≡ 0
   unfolding packed_found
   find_done name slot offset f = let l = find_low image name slot offset f in rw f (omega (arith, l))
 
-  pub find_refused : (name : List ℕ) (r : Refusal) → found image name ≡ Unfound r → Refuses (packed_found (found image name)) r
+  pub find_refused : (name : List ℕ) (r : Refusal) → found image name ≡ Err r → Refuses (packed_found (found image name)) r
   unfolding packed_found
   find_refused name r f = rw f (refuses r (find_small image name r f))
 
-  pub count_done : (slot n : ℕ) → counted image slot ≡ Count n → code_of (packed_counted (counted image slot)) ≡ 0
+  pub count_done : (slot n : ℕ) → counted image slot ≡ Ok n → code_of (packed_counted (counted image slot)) ≡ 0
   unfolding packed_counted
   count_done slot n c = rw c (omega (arith, count_few image slot n c))
 
-  pub count_refused : (slot : ℕ) (r : Refusal) → counted image slot ≡ Uncounted r → Refuses (packed_counted (counted image slot)) r
+  pub count_refused : (slot : ℕ) (r : Refusal) → counted image slot ≡ Err r → Refuses (packed_counted (counted image slot)) r
   unfolding packed_counted
   count_refused slot r c = rw c (refuses r (count_small image slot r c))
 
-  pub free_done : (n : ℕ) → free_count image ≡ Count n → code_of (packed_counted (free_count image)) ≡ 0
+  pub free_done : (n : ℕ) → free_count image ≡ Ok n → code_of (packed_counted (free_count image)) ≡ 0
   unfolding packed_counted
   free_done n c = rw c (omega (arith, free_low image n c))
 
-  pub free_refused : (r : Refusal) → free_count image ≡ Uncounted r → Refuses (packed_counted (free_count image)) r
+  pub free_refused : (r : Refusal) → free_count image ≡ Err r → Refuses (packed_counted (free_count image)) r
   unfolding packed_counted
   free_refused r c = rw c (refuses r (free_small image r c))
 
   -- a slot and an offset that are found have room in their bits
-  pub find_room : (name : List ℕ) (slot offset : ℕ) → found image name ≡ At slot offset → (slot < 2 ^ 32) × (offset < 2 ^ 24)
+  pub find_room : (name : List ℕ) (slot offset : ℕ) → found image name ≡ label_found slot offset → (slot < 2 ^ 32) × (offset < 2 ^ 24)
   find_room name slot offset f = let l = find_low image name slot offset f in (omega (arith, l), omega (arith, l))
 
-  pub create_done : (w : List ℕ) (n slot : ℕ) (start : Address) → created image w n ≡ Placed slot start → code_of (packed_created (created image w n)) ≡ 0
+  pub create_done : (w : List ℕ) (n slot : ℕ) (start : Address) → created image w n ≡ file_made slot start → code_of (packed_created (created image w n)) ≡ 0
   unfolding packed_created
   create_done w n slot start c = let l = create_low image w n slot start c in rw c (omega (arith, l.slot_low, l.number))
 
-  pub create_refuses : (w : List ℕ) (n : ℕ) (r : Refusal) → created image w n ≡ Uncreated r → Refuses (packed_created (created image w n)) r
+  pub create_refuses : (w : List ℕ) (n : ℕ) (r : Refusal) → created image w n ≡ Err r → Refuses (packed_created (created image w n)) r
   unfolding packed_created
   create_refuses w n r c = rw c (refuses r (create_small image w n r c))
 
-  pub delete_done : (slot n : ℕ) → deleted image slot ≡ Count n → code_of (packed_counted (deleted image slot)) ≡ 0
+  pub delete_done : (slot n : ℕ) → deleted image slot ≡ Ok n → code_of (packed_counted (deleted image slot)) ≡ 0
   unfolding packed_counted
   delete_done slot n c = rw c (omega (arith, delete_few image slot n c))
 
-  pub delete_refuses : (slot : ℕ) (r : Refusal) → deleted image slot ≡ Uncounted r → Refuses (packed_counted (deleted image slot)) r
+  pub delete_refuses : (slot : ℕ) (r : Refusal) → deleted image slot ≡ Err r → Refuses (packed_counted (deleted image slot)) r
   unfolding packed_counted
   delete_refuses slot r c = rw c (refuses r (delete_small image slot r c))

@@ -1,7 +1,7 @@
 -- How large the numbers in a reading's answer can be: a record is no longer than the bytes of its file, a place no further than its blocks reach.
 -- Assumes nothing.
 use Prim.Native.Nat.{ℕ, zero, suc, ◌+◌, ◌-◌, ◌*◌, ◌^◌, ◌<◌, ◌≤◌}
-use Rattle.std.specs.Prelude.{◌≡◌, refl, Bool, false, cond, ◌&&◌, take, leb, ltb}
+use Rattle.std.specs.Prelude.{◌≡◌, refl, Bool, false, cond, ◌&&◌, take, leb, ltb, Result, Ok, Err, ⊤}
 use Rattle.std.proofs.Common.{sym, ◌∙◌, length-append}
 use Rattle.std.proofs.Math.Path.{ap, subst}
 use Rattle.std.proofs.Math.Bool.{true}
@@ -26,12 +26,8 @@ use Rattle.standard.specs.Reading.{unanswered, replied, reply_in, opened, reply,
 use Rattle.standard.specs.declared.Geometry.{Geometry}
 use Rattle.standard.specs.declared.Address.{Address}
 use Rattle.standard.specs.declared.Place.{Place}
-use Rattle.standard.specs.declared.Checked.{Checked}
-use Rattle.standard.specs.declared.Checked.TheVariants.{Passed, Stopped}
-use Rattle.standard.specs.declared.Judged.{Judged}
-use Rattle.standard.specs.declared.Judged.TheVariants.{Refused, Volume}
 use Rattle.standard.specs.declared.Answer.{Answer}
-use Rattle.standard.specs.declared.Answer.TheVariants.{Unanswered, Record as RecordOf, Gap, End}
+use Rattle.standard.specs.declared.Answer.TheVariants.{Record as RecordOf, Gap, End}
 use Rattle.promises.specs.Ground.Basics.{cond_elim, by_test, and_l, and_r}
 use Rattle.promises.specs.Ground.Lists.{Every, take_short, every_append, every_drop}
 use Rattle.promises.specs.Reading.PiecesLaws.{Sound, look_sound}
@@ -42,6 +38,7 @@ use Rattle.promises.specs.Volumes.VolumeNumbers.{Numbers, numbers_of_lem}
 use Rattle.promises.specs.Extents.FullBlocks.{count_held, content_fits, open_label, open_rules, block_low, sound_file}
 use Rattle.promises.proofs.Salvage.SalvageImage.{file_count}
 use Rattle.promises.specs.Extents.ExtentWhole.{extent_length}
+use Rattle.standard.specs.declared.Refusal.{Refusal}
 use Rattle.promises.specs.Bounds.Sizes.{Small, small_one, volume_small, open_small, blocks_few, addresses_few, good_few}
 
 -- a piece's body is no longer than the piece
@@ -224,11 +221,11 @@ module _ (N O : ℕ) where
 abbrev pub PlaceSmall : Place → Type 0
 PlaceSmall pl = (pl.block < 2 ^ 16) × (pl.offset < 2 ^ 15)
 
-abbrev pub AnswerSmall : Answer → Type 0
-AnswerSmall (Unanswered r) = Small r
-AnswerSmall (RecordOf n pl) = (n < 2 ^ 24) × PlaceSmall pl
-AnswerSmall (Gap pl) = PlaceSmall pl
-AnswerSmall (End pl) = PlaceSmall pl
+abbrev pub AnswerSmall : Result Answer Refusal → Type 0
+AnswerSmall (Err r) = Small r
+AnswerSmall (Ok (RecordOf n pl)) = (n < 2 ^ 24) × PlaceSmall pl
+AnswerSmall (Ok (Gap pl)) = PlaceSmall pl
+AnswerSmall (Ok (End pl)) = PlaceSmall pl
 
 -- ---- a file of N blocks, of at most O bytes each and W in all
 enters_empty : (m : Mode) (f : Format) (o : ℕ) (mark : Bool) → held_so_far (entering m f o mark) ≡ 0
@@ -279,7 +276,7 @@ module _ (f : File) (O W : ℕ) (n-low : length f.blocks < 2 ^ 16) (o-low : O < 
     replied_fits room (took r pl) h = go (ltb room (length r.body))
       where
         go : (t : Bool)
-            → AnswerSmall (cond t (unanswered (refuse 23 (length r.body))) (record { answer = RecordOf (length r.body) pl; body = r.body })).answer
+            → AnswerSmall (cond t (unanswered (refuse 23 (length r.body))) (record { answer = Ok (RecordOf (length r.body) pl); body = r.body })).answer
         go true = small_one 23 (length r.body) (omega arith) (omega arith) (omega (arith, h.0))
         go false = (omega (arith, h.0), (omega (arith, h.1), omega (arith, h.2)))
     replied_fits room (gapped b pl) h = (omega (arith, h.0), omega (arith, h.1))
@@ -310,7 +307,7 @@ module _ (g : Geometry) (image h : List ℕ) where
       let one : size_of (block_of g image (content_size h n) (take m xs)) ≤ block_length h = omega (arith, block_small (content_size h n) (take m xs), content_fits h n) in
       ((one, more.0), omega (arith, more.1))
 
-module _ (image : List ℕ) (g : Geometry) (j : judged image ≡ Volume g) (slot : ℕ) (opens : open_refusal g image slot ≡ Passed) where
+module _ (image : List ℕ) (g : Geometry) (j : judged image ≡ Ok g) (slot : ℕ) (opens : open_refusal g image slot ≡ Ok tt) where
   abbrev h : List ℕ
   h = label_at g image slot
 
@@ -350,11 +347,11 @@ pub reading_small : (m : Mode) (image : List ℕ) (slot : ℕ) (pl : Place) (out
 unfolding reply
 reading_small m image slot pl out = on (judged image) refl
   where
-    opened_fits : (g : Geometry) → judged image ≡ Volume g → (c : Checked) → open_refusal g image slot ≡ c
+    opened_fits : (g : Geometry) → judged image ≡ Ok g → (c : Result ⊤ Refusal) → open_refusal g image slot ≡ c
         → AnswerSmall (opened c (reply_in m (file_in g image (label_at g image slot)) pl (length out))).answer
-    opened_fits g j Passed e = in_image image g j slot e m pl (length out)
-    opened_fits g j (Stopped r) e = open_small image g j slot r e
+    opened_fits g j (Ok _) e = in_image image g j slot e m pl (length out)
+    opened_fits g j (Err r) e = open_small image g j slot r e
 
-    on : (v : Judged) → judged image ≡ v → AnswerSmall (reply_on v m image slot pl (length out)).answer
-    on (Refused r) j = volume_small image r j
-    on (Volume g) j = opened_fits g j (open_refusal g image slot) refl
+    on : (v : Result Geometry Refusal) → judged image ≡ v → AnswerSmall (reply_on v m image slot pl (length out)).answer
+    on (Err r) j = volume_small image r j
+    on (Ok g) j = opened_fits g j (open_refusal g image slot) refl

@@ -1,7 +1,7 @@
 -- How large the numbers in a write's answer can be: the blocks written are blocks of the extent. Only the place of 26 (a record of the list lent) and of 27
 -- (the blocks that the list would need) grow with what is lent.
 -- Assumes nothing.
-use Rattle.std.specs.Prelude.{ℕ, ◌^◌, ◌<◌, ◌≤◌, ◌≡◌, refl, true, false, List, ltb}
+use Rattle.std.specs.Prelude.{ℕ, ◌^◌, ◌<◌, ◌≤◌, ◌≡◌, refl, true, false, List, ltb, Result, Ok, Err}
 use Rattle.std.proofs.Common.{sym, subst, arith, ltb-true}
 use Rattle.standard.specs.Layout.{label_at}
 use Rattle.standard.specs.Refusals.{refuse}
@@ -10,9 +10,6 @@ use Rattle.standard.specs.Judgement.{judged}
 use Rattle.standard.specs.Writing.{needed, write_list, written, image_after}
 use Rattle.standard.specs.declared.Geometry.{Geometry}
 use Rattle.standard.specs.declared.Refusal.{Refusal}
-use Rattle.standard.specs.declared.Judged.{Judged}
-use Rattle.standard.specs.declared.Judged.TheVariants.{Refused, Volume}
-use Rattle.standard.specs.declared.Written.TheVariants.{Unwritten, Blocks}
 use Rattle.promises.specs.Ground.Basics.{never, by_test}
 use Rattle.promises.specs.Refusals.Refusing.{first_order, volume_stops, write_first, accepted_write}
 use Rattle.promises.specs.Refusals.PlacesNamed.{given_exactly, place_26}
@@ -35,7 +32,7 @@ one_capped number place r l m e =
     (record { number_low = l; number_high = m; first_low = most_low place; second_low = omega arith; third_none = refl })
 
 module _ (image : List ℕ) (slot : ℕ) (bodies lengths : List ℕ) where
-  on_volume : (g : Geometry) → judged image ≡ Volume g → (r : Refusal) → written image slot bodies lengths ≡ Unwritten r → Small (capped r)
+  on_volume : (g : Geometry) → judged image ≡ Ok g → (r : Refusal) → written image slot bodies lengths ≡ Err r → Small (capped r)
   on_volume g j r w =
       by_order _ _ r (first_order (write_list g image slot bodies lengths) r ((write_first image g j slot bodies lengths r).0 w)) (λ e. small_capped r (thirteen_small image g j slot r e))
       (λ at h14. let l = labelled image g j slot at in
@@ -49,22 +46,22 @@ module _ (image : List ℕ) (slot : ℕ) (bodies lengths : List ℕ) where
       (λ _ h27. by_order _ _ r h27 (λ e. one_capped 27 _ r (omega arith) (omega arith) ((given_exactly _ _ r).0 e).1)
       (λ _ none. by_none r none)))))))))
 
-  pub write_small : (r : Refusal) → written image slot bodies lengths ≡ Unwritten r → Small (capped r)
+  pub write_small : (r : Refusal) → written image slot bodies lengths ≡ Err r → Small (capped r)
   write_small r w = on (judged image) refl
     where
-      on : (v : Judged) → judged image ≡ v → Small (capped r)
-      on (Refused q) j =
+      on : (v : Result Geometry Refusal) → judged image ≡ v → Small (capped r)
+      on (Err q) j =
           let e = (volume_stops image q j).5 slot bodies lengths in
           let same : q ≡ r = cc in
           small_capped r (subst Small same (volume_small image q j))
-      on (Volume g) j = on_volume g j r w
+      on (Ok g) j = on_volume g j r w
 
-  pub write_few : (n : ℕ) → written image slot bodies lengths ≡ Blocks n → n ≤ 4992
+  pub write_few : (n : ℕ) → written image slot bodies lengths ≡ Ok n → n ≤ 4992
   write_few n w = on (judged image) refl
     where
-      on : (v : Judged) → judged image ≡ v → n ≤ 4992
-      on (Refused q) j = let e = (volume_stops image q j).5 slot bodies lengths in never (cc)
-      on (Volume g) j =
+      on : (v : Result Geometry Refusal) → judged image ≡ v → n ≤ 4992
+      on (Err q) j = let e = (volume_stops image q j).5 slot bodies lengths in never (cc)
+      on (Ok g) j =
           let passed = accepted_write image g j slot bodies lengths n w in
           let e = answers image g slot bodies lengths j passed in
           let same : needed (label_at g image slot) bodies lengths ≡ n = cc in

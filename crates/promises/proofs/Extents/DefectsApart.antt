@@ -1,7 +1,7 @@
 -- NO DATA STAND ON A DEFECTIVE CYLINDER: "These are physical numbers, and data skip them (house)." No sector of one is in an extent, so none is read as data, and a
 -- write changes none.
 -- Assumes nothing.
-use Rattle.std.specs.Prelude.{ℕ, ◌+◌, ◌<◌, ◌≤◌, ◌≡◌, true, false, List, get_or}
+use Rattle.std.specs.Prelude.{ℕ, ◌+◌, ◌<◌, ◌≤◌, ◌≡◌, true, false, List, get_or, Ok}
 use Rattle.std.proofs.Common.{ap, subst, ◌∙◌, arith}
 use borrow.Author.Tests.{ltb-true}
 use Rattle.standard.specs.Layout.{ordinal_at, index_sectors, body_offset, slot_ordinal, label_offset, label_at}
@@ -14,8 +14,6 @@ use Rattle.standard.specs.Judgement.{judged}
 use Rattle.standard.specs.Writing.{needed, write_refusal, image_after}
 use Rattle.standard.specs.declared.Geometry.{Geometry}
 use Rattle.standard.specs.declared.Address.{Address}
-use Rattle.standard.specs.declared.Checked.TheVariants.{Passed}
-use Rattle.standard.specs.declared.Judged.TheVariants.{Volume}
 use Rattle.promises.specs.Ground.Basics.{either, lt_or_le, true_not_false}
 use Rattle.promises.specs.Ground.Lists.{Every, every_map}
 use Rattle.promises.specs.Images.AddressLaws.{Legal, parts, On, on_legal, sector_inj, ordinal_at_lem, physical_low}
@@ -57,7 +55,7 @@ bad_low g c bad =
 behind_index : (g : Geometry) (n : ℕ) → OnDefect g n → index_sectors g ≤ n
 behind_index g n d = let e = d.is ∙ ordinal_at_lem g d.cylinder d.side d.sector (bad_low g d.cylinder d.bad) in omega arith
 
-module _ (image : List ℕ) (g : Geometry) (j : judged image ≡ Volume g) where
+module _ (image : List ℕ) (g : Geometry) (j : judged image ≡ Ok g) where
   address_apart : (a : Address) → legal g a ≡ true → OnDefect g (ordinal g a) → ⊥
   unfolding ordinal
   address_apart a l d =
@@ -82,7 +80,7 @@ module _ (image : List ℕ) (g : Geometry) (j : judged image ≡ Volume g) where
   )
 
   -- NO WRITE CHANGES A BYTE OF ONE
-  module _ (slot : ℕ) (bodies lengths : List ℕ) (w : write_refusal g image slot bodies lengths ≡ Passed) where
+  module _ (slot : ℕ) (bodies lengths : List ℕ) (w : write_refusal g image slot bodies lengths ≡ Ok tt) where
     label_apart : (i n : ℕ) → InSector g i n → OnDefect g n → i < label_offset g slot + 128 → ⊥
     unfolding label_offset body_offset
     label_apart i n at d l =

@@ -2,7 +2,7 @@
 -- Assumes nothing.
 use Prim.Native.Nat.{ℕ, zero, suc, ◌<◌}
 use Rattle.std.proofs.Common.{subst, ◌∙◌, inl, eqb-true, eq-eqb}
-use Rattle.std.specs.Prelude.{◌≡◌, true, false, take, drop}
+use Rattle.std.specs.Prelude.{◌≡◌, true, false, take, drop, Ok}
 use Rattle.std.proofs.Math.Path.{refl, sym}
 use Rattle.std.proofs.Math.Bool.{not}
 use mathlib.Core.List.{List, [], ◌∷◌}
@@ -13,7 +13,6 @@ use Rattle.standard.specs.Addresses.{ordinal}
 use Rattle.standard.specs.Files.{extent, is_defective, good_among, good_records, records_to_block, good_before, blocks_held, block_count, is_wrong, wrong_among, splits_block, any_failed, bytes_of, block_of, blocks_from, file_in}
 use Rattle.standard.specs.declared.Geometry.{Geometry}
 use Rattle.standard.specs.declared.Address.{Address}
-use Rattle.standard.specs.declared.Checked.TheVariants.{Passed}
 use Rattle.promises.specs.Ground.Basics.{by_test, true_not_false, or_l, or_r, or_right, or_rest}
 use Rattle.promises.specs.Ground.Lists.{Every, every_take, every_drop, every_map}
 use Rattle.promises.specs.Images.Sectors.{sector_at, sector_of}
@@ -40,13 +39,13 @@ sector_every Q g (a ∷ xs) h n e =
     (λ t. sector_every Q g xs h.1 n (or_rest (eqb (ordinal g a) n) (sector_of g xs n) t e))
 
 -- 17 is not given where no record is wrong, and the other way round
-pub none_wrong : (g : Geometry) (image : List ℕ) (xs : List Address) → wrong_among g image xs ≡ Passed → Every (λ a. is_wrong g image a ≡ false) xs
+pub none_wrong : (g : Geometry) (image : List ℕ) (xs : List Address) → wrong_among g image xs ≡ Ok tt → Every (λ a. is_wrong g image a ≡ false) xs
 unfolding wrong_among
 none_wrong g image [] h = tt
 none_wrong g image (a ∷ xs) h =
     (stop_first (is_wrong g image a) _ (wrong_among g image xs) h, none_wrong g image xs (stop_rest (is_wrong g image a) _ (wrong_among g image xs) h))
 
-pub wrong_none : (g : Geometry) (image : List ℕ) (xs : List Address) → Every (λ a. is_wrong g image a ≡ false) xs → wrong_among g image xs ≡ Passed
+pub wrong_none : (g : Geometry) (image : List ℕ) (xs : List Address) → Every (λ a. is_wrong g image a ≡ false) xs → wrong_among g image xs ≡ Ok tt
 unfolding wrong_among
 wrong_none g image [] h = refl
 wrong_none g image (a ∷ xs) h = rw h.0 (wrong_none g image xs h.1)

@@ -1,7 +1,7 @@
 -- "Kind 32+k: check failed, body not trusted." What it is for two images to be equal but for the bodies of check-failed sectors, and for positions that are not
 -- judged; and what is then the same of a sector.
 -- Assumes nothing.
-use Rattle.std.specs.Prelude.{ℕ, ◌+◌, ◌<◌, ◌≤◌, ◌≡◌, Bool, true, false, ◌&&◌, ◌⊎◌, List, [], ◌∷◌, length}
+use Rattle.std.specs.Prelude.{ℕ, ◌+◌, ◌<◌, ◌≤◌, ◌≡◌, Bool, true, false, ◌&&◌, ◌⊎◌, List, [], ◌∷◌, length, Result, Ok, ⊤}
 use Rattle.std.proofs.Math.Path.{sym}
 use Rattle.std.proofs.Common.{◌∙◌, inl, inr}
 use borrow.Author.Tests.{eqb-true}
@@ -9,11 +9,10 @@ use Rattle.standard.specs.Refusals.{in_order}
 use Rattle.standard.specs.Layout.{k_at, sector_count, kind_at, first_byte, valid_mark, incorrect_mark, check_failed, index_kind, index_body, vol1_of}
 use Rattle.standard.specs.Judgement.{volume_of, refusal1, refusal2, refusal3, refusal4, refusal5, legal_kind}
 use Rattle.standard.specs.declared.Geometry.{Geometry}
-use Rattle.standard.specs.declared.Checked.{Checked}
-use Rattle.standard.specs.declared.Checked.TheVariants.{Passed}
 use Rattle.promises.specs.Ground.Basics.{by_test, true_not_false}
 use Rattle.promises.specs.Images.Sectors.{sector_at}
 use Rattle.promises.specs.Images.Unjudged.{Unjudged, SameBut}
+use Rattle.standard.specs.declared.Refusal.{Refusal}
 use Rattle.promises.specs.Images.SectorLaws.{valid_sound, failed_correct, same_kind, same_first, same_failed, kind_legal}
 
 -- WHAT IS LOOSE, so that two images may differ there: positions of sectors 01 to 07, by the sector; and, or not, the bodies of check-failed sectors
@@ -50,7 +49,7 @@ FrontAlike loose image image' sector =
     ⊎ ((index_kind image sector ≡ 32) × (index_kind image' sector ≡ 32) × loose.bodies)
 
 -- Where the other sectors lie is known if none of the refusals 1 to 5 is given: sectors 05 and 07 can be read, VOL1 is right, the length is the one that it gives.
-abbrev pub layout_list : List ℕ → List Checked
+abbrev pub layout_list : List ℕ → List (Result ⊤ Refusal)
 layout_list image =
     refusal1 image
     ∷ refusal2 image
@@ -60,7 +59,7 @@ layout_list image =
     ∷ []
 
 abbrev pub SectorsKnown : List ℕ → Type 0
-SectorsKnown image = in_order (layout_list image) ≡ Passed
+SectorsKnown image = in_order (layout_list image) ≡ Ok tt
 
 -- TWO IMAGES, accepted or not, ARE EQUAL BUT FOR WHAT IS LOOSE. (Bytes of which nobody can say in which sector they are may differ too: they are not looked at.)
 pub record EqualBut (loose : Loose) (image image' : List ℕ) : Type 0 where

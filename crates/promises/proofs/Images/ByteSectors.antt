@@ -1,6 +1,6 @@
 -- EVERY BYTE OF AN IMAGE IS IN ONE SECTOR, and what follows: images that agree on every sector are equal; what a failure or a write can have changed.
 -- Assumes nothing.
-use Rattle.std.specs.Prelude.{ℕ, zero, suc, ◌+◌, ◌-◌, ◌<◌, ◌≤◌, ◌≡◌, refl, Bool, true, false, ◌||◌, ◌⊎◌, List, [], ◌∷◌, length, drop, eqb}
+use Rattle.std.specs.Prelude.{ℕ, zero, suc, ◌+◌, ◌-◌, ◌<◌, ◌≤◌, ◌≡◌, refl, Bool, true, false, ◌||◌, ◌⊎◌, List, [], ◌∷◌, length, drop, eqb, Ok}
 use Rattle.std.proofs.Common.{sym, ◌∙◌, inl, inr, ext_get_or, eq-eqb}
 use Rattle.std.proofs.Math.Path.{ap}
 use Rattle.std.proofs.Math.ListN.{get_or, get_or-eq_default}
@@ -12,8 +12,6 @@ use Rattle.standard.specs.Judgement.{judged}
 use Rattle.standard.specs.Writing.{needed, write_refusal, image_after}
 use Rattle.standard.specs.declared.Geometry.{Geometry}
 use Rattle.standard.specs.declared.Address.{Address}
-use Rattle.standard.specs.declared.Checked.TheVariants.{Passed}
-use Rattle.standard.specs.declared.Judged.TheVariants.{Volume}
 use Rattle.promises.specs.Ground.Basics.{either, lt_or_le}
 use Rattle.promises.specs.Images.Tiling.{offset_index, offset_data, next_sector, sectors_apart, last_sector, address_inside, address_size}
 use Rattle.promises.specs.Images.Sectors.{sector_at, sector_of}
@@ -84,7 +82,7 @@ module _ (g : Geometry) where
       (λ i k. let (n, p) = sector_of_byte i (omega arith) in same_byte image image' i n p (h n p.sector))
 
 -- WHAT A FAILURE CAN HAVE CHANGED: a byte is as before, or it is in a sector that failed.
-pub failure_changes : (image image' : List ℕ) (g : Geometry) (hit : ℕ → Bool) → judged image ≡ Volume g → Failed g hit image image'
+pub failure_changes : (image image' : List ℕ) (g : Geometry) (hit : ℕ → Bool) → judged image ≡ Ok g → Failed g hit image image'
     → (i : ℕ) → (get_or image i 0 ≡ get_or image' i 0) ⊎ ((n : ℕ) × InSector g i n × (hit n ≡ true))
 failure_changes image image' g hit j fail i =
     either (lt_or_le i (image_length g))
@@ -138,8 +136,8 @@ among_or_not g i (a ∷ xs) h =
     further true e = refl
     further false e = e
 
-module _ (image : List ℕ) (g : Geometry) (slot : ℕ) (bodies lengths : List ℕ) (j : judged image ≡ Volume g)
-    (w : write_refusal g image slot bodies lengths ≡ Passed) where
+module _ (image : List ℕ) (g : Geometry) (slot : ℕ) (bodies lengths : List ℕ) (j : judged image ≡ Ok g)
+    (w : write_refusal g image slot bodies lengths ≡ Ok tt) where
   abbrev blocks : ℕ
   blocks = needed (label_at g image slot) bodies lengths
 

@@ -1,6 +1,6 @@
 -- Request 2026-01, creating: the image after an accepted create.
 -- Assumes nothing.
-use Rattle.std.specs.Prelude.{ℕ, ◌+◌, ◌-◌, ◌<◌, ◌≤◌, ◌≡◌, refl, true, false, ◌&&◌, List, length, get_or, ltb, eqb}
+use Rattle.std.specs.Prelude.{ℕ, ◌+◌, ◌-◌, ◌<◌, ◌≤◌, ◌≡◌, refl, true, false, ◌&&◌, List, length, get_or, ltb, eqb, Result, Option, Ok, Err, Some, None}
 use Rattle.std.proofs.Math.Path.{sym, ap}
 use Rattle.std.proofs.Common.{subst, ◌∙◌, arith}
 use Rattle.std.proofs.Math.Dec.{leb}
@@ -12,19 +12,13 @@ use Rattle.standard.specs.Labels.{known_level, name_of, start_of, end_of, data_e
 use Rattle.standard.specs.Slots.{is_label}
 use Rattle.standard.specs.Judgement.{judged, overlap, same_name}
 use Rattle.standard.specs.Files.{extent_size}
-use Rattle.standard.specs.Finding.{found_from, found}
+use Rattle.standard.specs.Finding.{found_from, found, label_found}
 use Rattle.standard.specs.Free.{free_records}
-use Rattle.standard.specs.Creating.{name_in, proposal_fault, name_used, run_start, no_room, free_run, lowest_run, lowest_deleted, create_refusal, created_start, created_end, created_label, image_created, creation, image_after_create, Creation}
-use Rattle.standard.specs.declared.Run.{Run}
-use Rattle.standard.specs.declared.Run.TheVariants.{NoRun, RunAt}
+use Rattle.standard.specs.Creating.{name_in, proposal_fault, name_used, run_start, no_room, free_run, lowest_run, lowest_deleted, create_refusal, created_start, created_end, created_label, image_created, creation, image_after_create, Creation, file_made}
 use Rattle.standard.specs.declared.Geometry.{Geometry}
 use Rattle.standard.specs.declared.Address.{Address}
 use Rattle.standard.specs.declared.Refusal.{Refusal}
-use Rattle.standard.specs.declared.Checked.TheVariants.{Passed}
-use Rattle.standard.specs.declared.Judged.TheVariants.{Volume}
 use Rattle.standard.specs.declared.Found.{Found}
-use Rattle.standard.specs.declared.Found.TheVariants.{Unfound, At}
-use Rattle.standard.specs.declared.Created.TheVariants.{Placed}
 use Rattle.promises.specs.Ground.Basics.{either, lt_or_le, by_test, true_not_false, and_l, and_r, never}
 use Rattle.promises.specs.Ground.Splices.{Outside}
 use Rattle.promises.specs.Images.AddressLaws.{rank_of, legal_of}
@@ -47,20 +41,20 @@ pub record Creatable (g : Geometry) (image w : List ℕ) (n : ℕ) : Type 0 wher
   pub slot : LowestDeleted g image (lowest_deleted g image)
   pub run : Lowest g image n (run_start (lowest_run g image n))
 
-unused_name : (f : Found) → name_used f ≡ Passed → (r : Refusal) × (f ≡ Unfound r)
-unused_name (Unfound r) h = (r, refl)
-unused_name (At s o) h = never (cc)
+unused_name : (f : Result Found Refusal) → name_used f ≡ Ok tt → (r : Refusal) × (f ≡ Err r)
+unused_name (Err r) h = (r, refl)
+unused_name (Ok f) h = never (cc)
 
-room_there : (r : Run) → no_room r ≡ Passed → r ≡ RunAt (run_start r)
-room_there NoRun h = never (cc)
-room_there (RunAt i) h = refl
+room_there : (r : Option ℕ) → no_room r ≡ Ok tt → r ≡ Some (run_start r)
+room_there None h = never (cc)
+room_there (Some i) h = refl
 
-pub creatable : (image : List ℕ) (g : Geometry) (w : List ℕ) (n : ℕ) → judged image ≡ Volume g → create_refusal g image w n ≡ Passed → Creatable g image w n
+pub creatable : (image : List ℕ) (g : Geometry) (w : List ℕ) (n : ℕ) → judged image ≡ Ok g → create_refusal g image w n ≡ Ok tt → Creatable g image w n
 unfolding create_refusal found
 creatable image g w n j p =
     let (r10, (r12, (r28, (r29, _)))) = order_each _ p in
     let u = unused_name (found_from g image (name_in w) (slot_count g) 1) r12 in
-    let f : found image (name_in w) ≡ Unfound u.0 = rw j u.1 in
+    let f : found image (name_in w) ≡ Err u.0 = rw j u.1 in
     let s = eqb-false (lowest_deleted g image) 0 (not_given (eqb (lowest_deleted g image) 0) _ r28) in
     let low : 1 ≤ lowest_deleted g image =
     either (lt_or_le 0 (lowest_deleted g image)) (λ (l : 0 < lowest_deleted g image). l) (λ (m : lowest_deleted g image ≤ 0). absurd (s (omega arith))) in
@@ -71,7 +65,7 @@ creatable image g w n j p =
       run = lowest_run_lem g image n (run_start (lowest_run g image n)) (room_there (lowest_run g image n) r29);
     }
 
-module _ (image : List ℕ) (g : Geometry) (w : List ℕ) (n : ℕ) (j : judged image ≡ Volume g) (c : create_refusal g image w n ≡ Passed) where
+module _ (image : List ℕ) (g : Geometry) (w : List ℕ) (n : ℕ) (j : judged image ≡ Ok g) (c : create_refusal g image w n ≡ Ok tt) where
   abbrev slot : ℕ
   slot = lowest_deleted g image
 
@@ -91,7 +85,7 @@ module _ (image : List ℕ) (g : Geometry) (w : List ℕ) (n : ℕ) (j : judged 
   t = image_created g image w n
 
   -- THE ANSWER: the lowest deleted slot and the start of the lowest free run; and the image
-  pub creation_is : creation image w n ≡ record { answer = Placed slot start; image = t }
+  pub creation_is : creation image w n ≡ record { answer = file_made slot start; image = t }
   unfolding creation
   creation_is = rw (j, c)
 
@@ -210,7 +204,7 @@ module _ (image : List ℕ) (g : Geometry) (w : List ℕ) (n : ℕ) (j : judged 
       (λ y. y)
 
   -- ACCEPTED AGAIN
-  pub create_accepted : judged t ≡ Volume g
+  pub create_accepted : judged t ≡ Ok g
   create_accepted =
       judged_from t g
       (edit_accepted g image t slot ns create_edit (label_legal g t slot created_is_label)
@@ -233,7 +227,7 @@ module _ (image : List ℕ) (g : Geometry) (w : List ℕ) (n : ℕ) (j : judged 
       ∙ sym (other_name g t name slot (λ (q : name_of (label_at g t slot) ≡ name). ne (sym created_name ∙ ap name_of (sym created_label_lem) ∙ q))))
       (slot_count g) 1 (omega arith))
 
-  pub create_found_new : found t (name_in w) ≡ At slot (label_offset g slot)
+  pub create_found_new : found t (name_in w) ≡ label_found slot (label_offset g slot)
   create_found_new =
       (find_named t g create_accepted (name_in w) slot (label_offset g slot)).1
       (low, high, created_is_label, ap known_level created_label_lem ∙ created_known, ap name_of created_label_lem ∙ created_name, refl)

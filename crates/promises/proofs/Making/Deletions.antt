@@ -1,6 +1,6 @@
 -- Request 2026-01, "Deleting gives the slot the incorrect mark and first byte `D`, nothing else": the image after an accepted delete.
 -- Assumes nothing.
-use Rattle.std.specs.Prelude.{ℕ, ◌+◌, ◌≤◌, ◌≡◌, refl, true, false, not, get_or, eqb}
+use Rattle.std.specs.Prelude.{ℕ, ◌+◌, ◌≤◌, ◌≡◌, refl, true, false, not, get_or, eqb, Ok, Err, None}
 use Rattle.std.proofs.Math.Path.{sym}
 use Rattle.std.proofs.Common.{ap, subst, ◌∙◌, arith}
 use mathlib.Core.List.{List}
@@ -16,12 +16,7 @@ use Rattle.standard.specs.Files.{extent_size}
 use Rattle.standard.specs.Finding.{found}
 use Rattle.standard.specs.Free.{in_extent, free_records}
 use Rattle.standard.specs.Creating.{lowest_run, lowest_deleted, delete_refusal, image_without, deletion, image_after_delete, Deletion}
-use Rattle.standard.specs.declared.Run.TheVariants.{NoRun}
 use Rattle.standard.specs.declared.Geometry.{Geometry}
-use Rattle.standard.specs.declared.Checked.TheVariants.{Passed}
-use Rattle.standard.specs.declared.Judged.TheVariants.{Volume}
-use Rattle.standard.specs.declared.Counted.TheVariants.{Count}
-use Rattle.standard.specs.declared.Found.TheVariants.{Unfound}
 use Rattle.promises.specs.Ground.Basics.{either, eq_or_not, by_test, true_not_false}
 use Rattle.promises.specs.Images.AddressLaws.{rank_lt}
 use Rattle.promises.specs.Volumes.Judging.{accepted, judged_from, order_each, not_given}
@@ -39,7 +34,7 @@ pub record Deletable (g : Geometry) (image : List ℕ) (slot : ℕ) : Type 0 whe
   pub known : known_level (label_at g image slot) ≡ true
   pub unprotected : eqb (at (label_at g image slot) 43) (byte "P") ≡ false
 
-pub deletable : (g : Geometry) (image : List ℕ) (slot : ℕ) → delete_refusal g image slot ≡ Passed → Deletable g image slot
+pub deletable : (g : Geometry) (image : List ℕ) (slot : ℕ) → delete_refusal g image slot ≡ Ok tt → Deletable g image slot
 unfolding delete_refusal
 deletable g image slot p =
     let h = label_at g image slot in
@@ -50,7 +45,7 @@ deletable g image slot p =
       unprotected = not_given (eqb (at h 43) (byte "P")) _ r24;
     }
 
-module _ (image : List ℕ) (g : Geometry) (slot : ℕ) (j : judged image ≡ Volume g) (d : delete_refusal g image slot ≡ Passed) where
+module _ (image : List ℕ) (g : Geometry) (slot : ℕ) (j : judged image ≡ Ok g) (d : delete_refusal g image slot ≡ Ok tt) where
   abbrev h : List ℕ
   h = label_at g image slot
 
@@ -58,7 +53,7 @@ module _ (image : List ℕ) (g : Geometry) (slot : ℕ) (j : judged image ≡ Vo
   t = image_without g slot image
 
   -- THE ANSWER: the size of the extent; and the image
-  pub deletion_is : deletion image slot ≡ record { answer = Count (extent_size g h); image = t }
+  pub deletion_is : deletion image slot ≡ record { answer = Ok (extent_size g h); image = t }
   unfolding deletion
   deletion_is = rw (j, d)
 
@@ -94,7 +89,7 @@ module _ (image : List ℕ) (g : Geometry) (slot : ℕ) (j : judged image ≡ Vo
   no_label = deleted_no_label g t slot slot_deleted
 
   -- ACCEPTED AGAIN
-  pub delete_accepted : judged t ≡ Volume g
+  pub delete_accepted : judged t ≡ Ok g
   delete_accepted =
       judged_from t g
       (edit_accepted g image t slot ns delete_edit (deleted_legal g t slot slot_deleted) (deleted_passes g t slot slot_deleted)
@@ -113,7 +108,7 @@ module _ (image : List ℕ) (g : Geometry) (slot : ℕ) (j : judged image ≡ Vo
       rw (j, delete_accepted)
       (other_found_from g image t slot ns delete_edit name (other_name g image name slot ne ∙ sym (not_named g t name slot no_label)) (slot_count g) 1 (omega arith))
 
-  pub delete_not_found : found t (name_of h) ≡ Unfound (refuse 13 0)
+  pub delete_not_found : found t (name_of h) ≡ Err (refuse 13 0)
   delete_not_found =
       (find_none t g delete_accepted (name_of h) (refuse 13 0)).1 (
         refl,
@@ -152,7 +147,7 @@ module _ (image : List ℕ) (g : Geometry) (slot : ℕ) (j : judged image ≡ Vo
             (λ y. y);
       }
 
-  pub run_again : (n : ℕ) → n ≤ extent_size g h → lowest_run g t n ≡ NoRun → ⊥
+  pub run_again : (n : ℕ) → n ≤ extent_size g h → lowest_run g t n ≡ None → ⊥
   run_again n l e = no_run g t n e (rank g (start_of h)) (room_again n l)
 
   pub slot_again : lowest_deleted g t ≡ 0 → ⊥

@@ -1,7 +1,7 @@
 -- Request 2026-01, "the data end is the start": the new file has no blocks, and reading its start answers End, unless the run has a record whose mark is
 -- incorrect and whose first byte is not `F` (17).
 -- Assumes nothing.
-use Rattle.std.specs.Prelude.{ℕ, ◌≡◌, refl, true, false, List, [], ◌∷◌}
+use Rattle.std.specs.Prelude.{ℕ, ◌≡◌, refl, true, false, List, [], ◌∷◌, Result, Ok, Err, ⊤}
 use Rattle.std.proofs.Math.Path.{sym}
 use Rattle.std.proofs.Common.{ap, ◌∙◌, arith}
 use borrow.Author.Tests.{eq-eqb}
@@ -21,9 +21,6 @@ use Rattle.standard.specs.Creating.{lowest_deleted, create_refusal, created_star
 use Rattle.standard.specs.declared.Geometry.{Geometry}
 use Rattle.standard.specs.declared.Address.{Address}
 use Rattle.standard.specs.declared.Refusal.{Refusal}
-use Rattle.standard.specs.declared.Checked.{Checked}
-use Rattle.standard.specs.declared.Checked.TheVariants.{Passed, Stopped}
-use Rattle.standard.specs.declared.Judged.TheVariants.{Volume}
 use Rattle.standard.specs.declared.Answer.TheVariants.{End}
 use Rattle.promises.specs.Ground.Lists.{Every, every_map}
 use Rattle.promises.specs.Images.AddressLaws.{ordinal_ge}
@@ -42,16 +39,16 @@ enters_fresh salvage fixed = refl
 enters_fresh salvage variable = refl
 enters_fresh salvage spanned = refl
 
-pub nothing_in : (m : Mode) (f : File) (room : ℕ) → f.blocks ≡ [] → reply_in m f start room ≡ record { answer = End start; body = [] }
+pub nothing_in : (m : Mode) (f : File) (room : ℕ) → f.blocks ≡ [] → reply_in m f start room ≡ record { answer = Ok (End start); body = [] }
 unfolding reply_in in_file step ahead in_blocks first_met
 nothing_in m f room e = rw (e, enters_fresh m f.params.format)
 
-one_left : (c : Checked) → in_order (c ∷ Passed ∷ []) ≡ c
+one_left : (c : Result ⊤ Refusal) → in_order (c ∷ Ok tt ∷ []) ≡ c
 unfolding in_order
-one_left Passed = refl
-one_left (Stopped r) = refl
+one_left (Ok _) = refl
+one_left (Err r) = refl
 
-module _ (image : List ℕ) (g : Geometry) (w : List ℕ) (n : ℕ) (j : judged image ≡ Volume g) (c : create_refusal g image w n ≡ Passed) where
+module _ (image : List ℕ) (g : Geometry) (w : List ℕ) (n : ℕ) (j : judged image ≡ Ok g) (c : create_refusal g image w n ≡ Ok tt) where
   abbrev slot : ℕ
   slot = lowest_deleted g image
 
@@ -79,7 +76,7 @@ module _ (image : List ℕ) (g : Geometry) (w : List ℕ) (n : ℕ) (j : judged 
   has : has_label g t slot ≡ true
   has = let e = create_edit image g w n j c in has_label_lem g t slot e.low e.high (created_is_label image g w n j c)
 
-  not_18 : refusal18 g t h slot ≡ Passed
+  not_18 : refusal18 g t h slot ≡ Ok tt
   unfolding given_when splits_block
   not_18 = rw (at_start, unused_none)
 
@@ -101,7 +98,7 @@ module _ (image : List ℕ) (g : Geometry) (w : List ℕ) (n : ℕ) (j : judged 
   count_left : count_refusal g t slot ≡ refusal17 g image h
   unfolding count_refusal in_order given_when
   count_left =
-      rw (created_label_lem image g w n j c, has, created_known image g w n j c) (ap (λ (x : Checked). in_order (refusal17 g t h ∷ x ∷ [])) not_18 ∙ one_left (refusal17 g t h) ∙ sym wrongs)
+      rw (created_label_lem image g w n j c, has, created_known image g w n j c) (ap (λ (x : Result ⊤ Refusal). in_order (refusal17 g t h ∷ x ∷ [])) not_18 ∙ one_left (refusal17 g t h) ∙ sym wrongs)
 
   pub created_count : counted t slot ≡ count_or (refusal17 g image h) 0
   unfolding counted
@@ -112,17 +109,17 @@ module _ (image : List ℕ) (g : Geometry) (w : List ℕ) (n : ℕ) (j : judged 
   unfolding open_refusal in_order given_when
   open_left =
       rw (created_label_lem image g w n j c, has, created_known image g w n j c, fields.at42, fields.at45)
-      (ap (λ (x : Checked). in_order (refusal17 g t h ∷ x ∷ [])) not_18 ∙ one_left (refusal17 g t h) ∙ sym wrongs)
+      (ap (λ (x : Result ⊤ Refusal). in_order (refusal17 g t h ∷ x ∷ [])) not_18 ∙ one_left (refusal17 g t h) ∙ sym wrongs)
 
   blocks_none : (file_in g t h).blocks ≡ []
   unfolding file_in blocks_from
   blocks_none = rw no_blocks
 
-  pub created_reads : (m : Mode) (room : ℕ) → refusal17 g image h ≡ Passed → reply m t slot start room ≡ record { answer = End start; body = [] }
+  pub created_reads : (m : Mode) (room : ℕ) → refusal17 g image h ≡ Ok tt → reply m t slot start room ≡ record { answer = Ok (End start); body = [] }
   unfolding reply
   created_reads m room p =
       rw (create_accepted image g w n j c, open_left, p, created_label_lem image g w n j c) (nothing_in m (file_in g t h) room blocks_none)
 
-  pub created_wrong : (m : Mode) (room : ℕ) (r : Refusal) → refusal17 g image h ≡ Stopped r → reply m t slot start room ≡ unanswered r
+  pub created_wrong : (m : Mode) (room : ℕ) (r : Refusal) → refusal17 g image h ≡ Err r → reply m t slot start room ≡ unanswered r
   unfolding reply
   created_wrong m room r p = rw (create_accepted image g w n j c, open_left, p)

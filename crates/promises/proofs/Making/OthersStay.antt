@@ -1,7 +1,7 @@
 -- Request 2026-01, "Existing files read as before": what that says of a slot, and that it holds of every slot but the one whose sector was exchanged. Creating and
 -- deleting are two such exchanges, so it is shown once for both.
 -- Assumes nothing.
-use Rattle.std.specs.Prelude.{ℕ, ◌≤◌, ◌≡◌, List, length}
+use Rattle.std.specs.Prelude.{ℕ, ◌≤◌, ◌≡◌, List, length, Ok}
 use Rattle.std.proofs.Common.{sym, ap}
 use Rattle.standard.specs.Layout.{slot_count, label_at}
 use Rattle.standard.specs.Judgement.{judged}
@@ -12,7 +12,6 @@ use Rattle.standard.specs.Files.{counted}
 use Rattle.standard.specs.Finding.{found_at}
 use Rattle.standard.specs.declared.Geometry.{Geometry}
 use Rattle.standard.specs.declared.Place.{Place}
-use Rattle.standard.specs.declared.Judged.TheVariants.{Volume}
 use Rattle.promises.specs.Volumes.VolumeNumbers.{Numbers}
 use Rattle.promises.proofs.Locality.{reply_same, counted_same}
 use Rattle.promises.proofs.Making.SameWrites.{written_same}
@@ -27,7 +26,7 @@ pub record AsBefore (g : Geometry) (image after : List ℕ) (other : ℕ) : Type
   pub finds : found_at after other ≡ found_at image other
   pub label : 1 ≤ other → other ≤ slot_count g → label_at g after other ≡ label_at g image other
 
-module _ (g : Geometry) (image after : List ℕ) (slot : ℕ) (ns : Numbers g) (e : Edit g image after slot) (j : judged image ≡ Volume g) (j' : judged after ≡ Volume g)
+module _ (g : Geometry) (image after : List ℕ) (slot : ℕ) (ns : Numbers g) (e : Edit g image after slot) (j : judged image ≡ Ok g) (j' : judged after ≡ Ok g)
     (other : ℕ) (ne : other ≡ slot → ⊥) where
   found_same : found_at after other ≡ found_at image other
   unfolding found_at

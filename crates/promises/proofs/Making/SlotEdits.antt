@@ -2,7 +2,7 @@
 -- label, where it is one, clashes with no other; every other file is the same.
 -- Assumes nothing.
 use Prim.Native.Nat.{ℕ, zero, suc, ◌+◌, ◌<◌, ◌≤◌}
-use Rattle.std.specs.Prelude.{◌≡◌, Bool, ◌&&◌, ◌||◌, List, length, leb}
+use Rattle.std.specs.Prelude.{◌≡◌, Bool, ◌&&◌, ◌||◌, List, length, leb, Ok}
 use Rattle.std.proofs.Math.Path.{refl, sym, subst}
 use Rattle.std.proofs.Common.{◌∙◌, inl, leb-true}
 use Rattle.std.proofs.Math.Bool.{true, false}
@@ -18,8 +18,6 @@ use Rattle.standard.specs.Files.{extent, extent_size}
 use Rattle.standard.specs.Free.{in_extent, taken, free_records}
 use Rattle.standard.specs.declared.Geometry.{Geometry}
 use Rattle.standard.specs.declared.Address.{Address}
-use Rattle.standard.specs.declared.Checked.TheVariants.{Passed}
-use Rattle.standard.specs.declared.Judged.TheVariants.{Volume}
 use Rattle.promises.specs.Ground.Basics.{either, eq_or_not, by_test, true_not_false, and_r}
 use Rattle.promises.specs.Ground.Lists.{every_map}
 use Rattle.promises.specs.Images.AddressLaws.{ordinal_ge}
@@ -179,14 +177,14 @@ module _ (g : Geometry) (image image' : List ℕ) (slot : ℕ) (numbers : Number
       (λ (q : n ≡ slot_ordinal slot). subst (λ (x : ℕ). legal_kind g image' x ≡ true) (sym q) k)
       (λ (ne : n ≡ slot_ordinal slot → ⊥). sym (same_legal_kind g image image' n (e.others n ne)) ∙ h)
 
-  slots_pass : slot_refusal g image' slot ≡ Passed → (s : ℕ) → s ≤ slot_count g → slot_refusal g image s ≡ Passed → slot_refusal g image' s ≡ Passed
+  slots_pass : slot_refusal g image' slot ≡ Ok tt → (s : ℕ) → s ≤ slot_count g → slot_refusal g image s ≡ Ok tt → slot_refusal g image' s ≡ Ok tt
   slots_pass p s m h =
       either (eq_or_not s slot)
-      (λ (q : s ≡ slot). subst (λ (x : ℕ). slot_refusal g image' x ≡ Passed) (sym q) p)
+      (λ (q : s ≡ slot). subst (λ (x : ℕ). slot_refusal g image' x ≡ Ok tt) (sym q) p)
       (λ (ne : s ≡ slot → ⊥). sym (same_slot_refusal g image image' numbers s m (other_sector s ne)) ∙ h)
 
   -- ACCEPTED AGAIN
-  pub edit_accepted : legal_kind g image' (slot_ordinal slot) ≡ true → slot_refusal g image' slot ≡ Passed → Apart (overlap g) → Apart same_name
+  pub edit_accepted : legal_kind g image' (slot_ordinal slot) ≡ true → slot_refusal g image' slot ≡ Ok tt → Apart (overlap g) → Apart same_name
       → Accepted image g → Accepted image' g
   edit_accepted k p apart named a =
       accepted_with g image image' numbers front e.size (λ n l h. kinds_legal k n h) (λ s l m h. slots_pass p s m h)
@@ -194,7 +192,7 @@ module _ (g : Geometry) (image image' : List ℕ) (slot : ℕ) (numbers : Number
       (clash_none (namesake g image') 12 (slot_count g) (all_names (none_clash (namesake g image) 12 (slot_count g) a.names) named)) a
 
   -- EVERY OTHER FILE IS THE SAME
-  pub other_file : judged image ≡ Volume g → (other : ℕ) → (other ≡ slot → ⊥) → SameFile g image image' other
+  pub other_file : judged image ≡ Ok g → (other : ℕ) → (other ≡ slot → ⊥) → SameFile g image image' other
   other_file j other ne =
       record {
         has = other_has other ne;
@@ -274,7 +272,7 @@ module _ (g : Geometry) (image image' : List ℕ) (slot : ℕ) (numbers : Number
         rw (sym (other_is_label (suc n) ne m), sym (other_label (suc n) ne m), extents_more n (omega arith) (omega arith)) (omega arith))
 
     -- THE FREE RECORDS are as many fewer as its extent has
-    pub free_fewer : judged image ≡ Volume g → judged image' ≡ Volume g
+    pub free_fewer : judged image ≡ Ok g → judged image' ≡ Ok g
         → free_records g image' + extent_size g (label_at g image' slot) ≡ free_records g image
     free_fewer j j' =
         omega (arith, free_is image g j, free_is image' g j', extents_more (slot_count g) e.high (omega arith))

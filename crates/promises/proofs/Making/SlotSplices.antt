@@ -1,6 +1,6 @@
 -- Request 2026-01: a kind and bytes laid over a slot's sector from its label's first byte on.
 -- Assumes nothing.
-use Rattle.std.specs.Prelude.{ℕ, ◌+◌, ◌<◌, ◌≤◌, ◌≡◌, true, false, not, ◌||◌, List, [], ◌∷◌, length, take, drop}
+use Rattle.std.specs.Prelude.{ℕ, ◌+◌, ◌<◌, ◌≤◌, ◌≡◌, true, false, not, ◌||◌, List, [], ◌∷◌, length, take, drop, Ok}
 use Rattle.std.proofs.Common.{sym, ◌∙◌}
 use Rattle.std.proofs.Math.Path.{ap}
 use Rattle.std.proofs.Math.Logic.{inl, inr}
@@ -15,7 +15,6 @@ use Rattle.standard.specs.Judgement.{legal_kind}
 use Rattle.standard.specs.Writing.{splice}
 use Rattle.standard.specs.Creating.{store_slot, image_with_label, image_without}
 use Rattle.standard.specs.declared.Geometry.{Geometry}
-use Rattle.standard.specs.declared.Checked.TheVariants.{Passed}
 use Rattle.promises.specs.Ground.Basics.{either, lt_or_le, by_test, true_not_false, and_l, and_r, or_rest}
 use Rattle.promises.specs.Ground.Splices.{Outside, splice_length, splice_before, splice_at, splice_part, splice_outside}
 use Rattle.promises.specs.Images.Tiling.{size_index, sector_outside}
@@ -112,7 +111,7 @@ module _ (g : Geometry) (image : List ℕ) (slot : ℕ) (d : is_deleted g image 
       let x = ne_eqb (first_byte g image (slot_ordinal slot)) (byte "F") (λ (q : first_byte g image (slot_ordinal slot) ≡ byte "F"). omega arith) in
       rw (deleted_not_failed, deleted_incorrect, x)
 
-  pub deleted_passes : slot_refusal g image slot ≡ Passed
+  pub deleted_passes : slot_refusal g image slot ≡ Ok tt
   unfolding slot_refusal given_when
   deleted_passes = order_all _ (rw deleted_readable, (rw (deleted_no_label, d), (rw deleted_no_label, tt)))
 
@@ -121,7 +120,7 @@ module _ (g : Geometry) (image : List ℕ) (slot : ℕ) (d : is_deleted g image 
   deleted_legal = rw (deleted_not_valid, deleted_incorrect)
 
 -- a slot that passed 8 to 10 is deleted exactly if it has no label
-pub deleted_unless : (g : Geometry) (image : List ℕ) (slot : ℕ) → slot_refusal g image slot ≡ Passed → is_deleted g image slot ≡ not (is_label g image slot)
+pub deleted_unless : (g : Geometry) (image : List ℕ) (slot : ℕ) → slot_refusal g image slot ≡ Ok tt → is_deleted g image slot ≡ not (is_label g image slot)
 unfolding slot_refusal
 deleted_unless g image slot p =
     let (r8, (r9, _)) = order_each _ p in

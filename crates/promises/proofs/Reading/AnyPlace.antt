@@ -1,6 +1,6 @@
 -- "Any place in the file may be asked": following a file from any place in it gives what the pieces ahead of that place make, joined.
 -- Assumes nothing.
-use Rattle.std.specs.Prelude.{ℕ, suc, ◌<◌, ◌≤◌, ◌≡◌, refl, true, List, [], ◌∷◌, length, take, drop}
+use Rattle.std.specs.Prelude.{ℕ, suc, ◌<◌, ◌≤◌, ◌≡◌, refl, true, List, [], ◌∷◌, length, take, drop, Ok}
 use Rattle.std.proofs.Common.{sym, ap, subst, ◌∙◌, take_all, arith, le_refl}
 use Rattle.standard.specs.Layout.{label_at}
 use Rattle.standard.specs.Judgement.{judged}
@@ -11,8 +11,6 @@ use Rattle.standard.specs.Listed.{Item, read_on, join}
 use Rattle.standard.specs.Labels.{Params}
 use Rattle.standard.specs.declared.Geometry.{Geometry}
 use Rattle.standard.specs.declared.Place.{Place}
-use Rattle.standard.specs.declared.Checked.TheVariants.{Passed}
-use Rattle.standard.specs.declared.Judged.TheVariants.{Volume}
 use Rattle.promises.specs.Ground.Basics.{either, lt_or_le}
 use Rattle.promises.specs.Reading.PiecesLaws.{Chained, blocks_chained, pieces_chained, drop_tail, next_ahead}
 use Rattle.promises.specs.Reading.ReadingLaws.{one_more, onward}
@@ -56,7 +54,7 @@ read_on_from n m f pl =
     same ∙ sym (take_all n (listed_from m f pl) short))
 
 -- N READINGS FROM ANY PLACE IN THE FILE, into any output
-pub following_from : (image : List ℕ) (g : Geometry) (slot : ℕ) → judged image ≡ Volume g → open_refusal g image slot ≡ Passed
+pub following_from : (image : List ℕ) (g : Geometry) (slot : ℕ) → judged image ≡ Ok g → open_refusal g image slot ≡ Ok tt
     → (m : Mode) (n : ℕ) (out : List ℕ) (pl : Place) → in_file (file_in g image (label_at g image slot)) pl ≡ true
     → following n m image slot out pl ≡ heard_in (length out) (take n (listed_from m (file_in g image (label_at g image slot)) pl))
 following_from image g slot j ok m n out pl i =

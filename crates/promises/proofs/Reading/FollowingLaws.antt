@@ -1,7 +1,7 @@
 -- Following a file from Start gives the declared list.
 -- Assumes nothing.
 use Prim.Native.Nat.{ℕ, zero, suc, ◌≤◌, ◌-◌}
-use Rattle.std.specs.Prelude.{◌≡◌, Bool, cond, length, take, drop}
+use Rattle.std.specs.Prelude.{◌≡◌, Bool, cond, length, take, drop, Ok}
 use Rattle.std.proofs.Math.Path.{refl, ap}
 use Rattle.std.proofs.Common.{◌∙◌, length-append, length-drop, arith, le-ltb, ltb-false}
 use Rattle.std.proofs.Math.Bool.{true, false}
@@ -20,8 +20,6 @@ use Rattle.standard.specs.Reading.{Reply, unanswered, replied, reply_in, reply, 
 use Rattle.standard.specs.Labels.{Params}
 use Rattle.standard.specs.declared.Place.{Place}
 use Rattle.standard.specs.declared.Geometry.{Geometry}
-use Rattle.standard.specs.declared.Checked.TheVariants.{Passed}
-use Rattle.standard.specs.declared.Judged.TheVariants.{Volume}
 use Rattle.standard.specs.declared.Answer.TheVariants.{Record as RecordOf}
 use Rattle.promises.specs.Ground.Lists.{every_each}
 use Rattle.promises.specs.Reading.PlaceLaws.{Landed, answer_holds, start_in_file, step_lands}
@@ -53,7 +51,7 @@ unfolding laid_over
 laid_record body out = take-append_seam body (drop (length body) out)
 
 -- a reading of an accepted image, of a file that may be opened, is one of the file
-module _ (image : List ℕ) (g : Geometry) (slot : ℕ) (j : judged image ≡ Volume g) (ok : open_refusal g image slot ≡ Passed) where
+module _ (image : List ℕ) (g : Geometry) (slot : ℕ) (j : judged image ≡ Ok g) (ok : open_refusal g image slot ≡ Ok tt) where
   abbrev pub the_file : File
   the_file = file_in g image (label_at g image slot)
 
@@ -76,8 +74,8 @@ module _ (image : List ℕ) (g : Geometry) (slot : ℕ) (j : judged image ≡ Vo
     where
       go : (t : Bool) → ltb (length out) (length r.body) ≡ t
           → following n m image slot (laid_over r.body out) pl ≡ heard_in (length (laid_over r.body out)) (read_on n m the_file pl)
-          → onward (cond t (unanswered (refuse 23 (length r.body))) (record { answer = RecordOf (length r.body) pl; body = r.body })).answer
-          (laid_over (cond t (unanswered (refuse 23 (length r.body))) (record { answer = RecordOf (length r.body) pl; body = r.body })).body out)
+          → onward (cond t (unanswered (refuse 23 (length r.body))) (record { answer = Ok (RecordOf (length r.body) pl); body = r.body })).answer
+          (laid_over (cond t (unanswered (refuse 23 (length r.body))) (record { answer = Ok (RecordOf (length r.body) pl); body = r.body })).body out)
           (λ out' pl'. following n m image slot out' pl')
           ≡ too_long t r.body (heard_in (length out) (read_on n m the_file pl))
       go true q e = refl
@@ -99,7 +97,7 @@ module _ (image : List ℕ) (g : Geometry) (slot : ℕ) (j : judged image ≡ Vo
       ∙ heard_on n m out (following_is n m) (step m the_file pl) (step_lands m the_file pl h) (step_nexts m the_file pl)
 
 -- any room: n readings are heard as the first n of the list, up to the first record that is too long
-pub following_any : (image : List ℕ) (g : Geometry) (slot : ℕ) → judged image ≡ Volume g → open_refusal g image slot ≡ Passed
+pub following_any : (image : List ℕ) (g : Geometry) (slot : ℕ) → judged image ≡ Ok g → open_refusal g image slot ≡ Ok tt
     → (m : Mode) (n : ℕ) (out : List ℕ) → following n m image slot out start ≡ heard_in (length out) (take n (listed m (file_in g image (label_at g image slot))))
 following_any image g slot j ok m n out =
     let f = file_in g image (label_at g image slot) in
@@ -116,7 +114,7 @@ fits_heard room (suc n) (end ∷ is) h = rw (fits_heard room n is h)
 fits_heard room (suc n) (no x ∷ is) h = rw (fits_heard room n is h)
 
 -- room for every record: n readings are heard as the first n of the list
-pub following_listed : (image : List ℕ) (g : Geometry) (slot : ℕ) → judged image ≡ Volume g → open_refusal g image slot ≡ Passed
+pub following_listed : (image : List ℕ) (g : Geometry) (slot : ℕ) → judged image ≡ Ok g → open_refusal g image slot ≡ Ok tt
     → (m : Mode) (n : ℕ) (out : List ℕ) → Fits (length out) (listed m (file_in g image (label_at g image slot)))
     → following n m image slot out start ≡ take n (map heard (listed m (file_in g image (label_at g image slot))))
 following_listed image g slot j ok m n out h =

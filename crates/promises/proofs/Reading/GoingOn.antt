@@ -1,7 +1,7 @@
 -- "A place at the end of a block's content goes on in the next block": what is read at a place where nothing more stands in its block is what is read at the place
 -- to which the move `next_block` brings it. So a caller may move there himself, and reading and the move cannot part.
 -- Assumes nothing.
-use Rattle.std.specs.Prelude.{ℕ, suc, ◌<◌, ◌≡◌, refl, Bool, true, false, cond, List, [], ◌∷◌, length, get_or, drop}
+use Rattle.std.specs.Prelude.{ℕ, suc, ◌<◌, ◌≡◌, refl, Bool, true, false, cond, List, [], ◌∷◌, length, get_or, drop, Result, Ok}
 use Rattle.std.proofs.Common.{sym, subst, ◌∙◌, drop-cons, lt-ltb}
 use Rattle.std.proofs.Math.Path.{ap}
 use Rattle.standard.specs.Layout.{label_at}
@@ -14,11 +14,10 @@ use Rattle.standard.specs.Records.{Mode, plain, salvage, File, State, marked, fr
 use Rattle.standard.specs.Reading.{replied, reply_in, opened, reply}
 use Rattle.standard.specs.declared.Geometry.{Geometry}
 use Rattle.standard.specs.declared.Place.{Place}
-use Rattle.standard.specs.declared.Judged.{Judged}
-use Rattle.standard.specs.declared.Judged.TheVariants.{Volume}
 use Rattle.promises.specs.Reading.StepLaw.{reading, on_piece, on_blocks, reading_law}
 use Rattle.promises.specs.Reading.PlaceLaws.{in_start}
 use Rattle.promises.specs.Refusals.Refusing.{reply_on}
+use Rattle.standard.specs.declared.Refusal.{Refusal}
 use Rattle.promises.proofs.Salvage.SalvageImage.{file_count}
 
 -- NOTHING MORE STANDS at a place of a block that is not lost: from its offset on there is fill, or no byte
@@ -91,12 +90,12 @@ module _ (m : Mode) (f : File) (pl : Place) (over : Finished f pl) where
   reply_goes_on h room = rw (h, next_in_file) (ap (replied f room) step_goes_on)
 
 -- IN AN IMAGE, whatever the mode, the place and the room
-pub goes_on_lem : (image : List ℕ) (g : Geometry) → judged image ≡ Volume g → (m : Mode) (slot : ℕ) (pl : Place)
+pub goes_on_lem : (image : List ℕ) (g : Geometry) → judged image ≡ Ok g → (m : Mode) (slot : ℕ) (pl : Place)
     → in_file (file_in g image (label_at g image slot)) pl ≡ true → Finished (file_in g image (label_at g image slot)) pl
     → (room : ℕ) → reply m image slot pl room ≡ reply m image slot (next_block (block_count g image (label_at g image slot)) pl) room
 unfolding reply
 goes_on_lem image g j m slot pl h over room =
     let f = file_in g image (label_at g image slot) in
-    ap (λ (v : Judged). reply_on v m image slot pl room) j
+    ap (λ (v : Result Geometry Refusal). reply_on v m image slot pl room) j
     ∙ ap (opened (open_refusal g image slot)) (reply_goes_on m f pl over h room ∙ ap (λ (n : ℕ). reply_in m f (next_block n pl) room) (file_count g image (label_at g image slot)))
-    ∙ ap (λ (v : Judged). reply_on v m image slot (next_block (block_count g image (label_at g image slot)) pl) room) (sym j)
+    ∙ ap (λ (v : Result Geometry Refusal). reply_on v m image slot (next_block (block_count g image (label_at g image slot)) pl) room) (sym j)

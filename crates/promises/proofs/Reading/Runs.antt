@@ -2,7 +2,7 @@
 -- one piece `0`, or `1`, any number of `2` and `3` right behind each other, with no lost block between. ("There, in S, 0 to 3 may come first: a 2 is
 -- dropped, unmeasured by R, and the mark stays; a 3 is dropped likewise and reading goes on without it.")
 -- Assumes nothing.
-use Rattle.std.specs.Prelude.{ℕ, ◌≡◌, refl, Bool, true, false, cond, List, [], ◌∷◌, ◌++◌, length, take, ltb}
+use Rattle.std.specs.Prelude.{ℕ, ◌≡◌, refl, Bool, true, false, cond, List, [], ◌∷◌, ◌++◌, length, take, ltb, Result, Ok, Err, ⊤}
 use Rattle.std.proofs.Common.{sym, ap, subst, ◌∙◌, append_assoc}
 use Rattle.standard.specs.Refusals.{refuse}
 use Rattle.standard.specs.Layout.{label_at}
@@ -14,14 +14,11 @@ use Rattle.standard.specs.Reading.{Reply, unanswered, replied, reply_in, opened,
 use Rattle.standard.specs.Labels.{Params}
 use Rattle.standard.specs.declared.Geometry.{Geometry}
 use Rattle.standard.specs.declared.Place.{Place}
-use Rattle.standard.specs.declared.Checked.{Checked}
-use Rattle.standard.specs.declared.Checked.TheVariants.{Passed, Stopped}
-use Rattle.standard.specs.declared.Judged.{Judged}
-use Rattle.standard.specs.declared.Judged.TheVariants.{Volume}
 use Rattle.standard.specs.declared.Answer.{Answer}
-use Rattle.standard.specs.declared.Answer.TheVariants.{Unanswered, Record as RecordOf, Gap, End}
+use Rattle.standard.specs.declared.Answer.TheVariants.{Record as RecordOf, Gap, End}
 use Rattle.promises.proofs.Reading.FollowingLaws.{laid_record}
 use Rattle.promises.specs.Refusals.Refusing.{reply_on}
+use Rattle.standard.specs.declared.Refusal.{Refusal}
 use Rattle.promises.specs.Ground.Basics.{never}
 
 -- THE REST OF A SPANNED RECORD: any number of `2`, then a `3`, right behind each other, of these bodies joined; the block of the `3`, the offset behind it
@@ -150,18 +147,18 @@ step_run m f pl r next e =
 
 -- ---- in an image
 -- an answer that is a record: its bytes, and the step that took it
-abbrev Taken : Mode → File → Place → Answer → List ℕ → Type 0
-Taken m f pl (Unanswered x) body = Unit {0}
-Taken m f pl (RecordOf n next) body = (r : FileRecord) × (body ≡ r.body) × (n ≡ length r.body) × (step m f pl ≡ took r next)
-Taken m f pl (Gap next) body = Unit {0}
-Taken m f pl (End next) body = Unit {0}
+abbrev Taken : Mode → File → Place → Result Answer Refusal → List ℕ → Type 0
+Taken m f pl (Err x) body = Unit {0}
+Taken m f pl (Ok (RecordOf n next)) body = (r : FileRecord) × (body ≡ r.body) × (n ≡ length r.body) × (step m f pl ≡ took r next)
+Taken m f pl (Ok (Gap next)) body = Unit {0}
+Taken m f pl (Ok (End next)) body = Unit {0}
 
 met_taken : (m : Mode) (f : File) (pl : Place) (room : ℕ) (s : Met) → step m f pl ≡ s → Taken m f pl (replied f room s).answer (replied f room s).body
 met_taken m f pl room (took q next) e = go (ltb room (length q.body))
   where
     go : (t : Bool)
-        → Taken m f pl (cond t (unanswered (refuse 23 (length q.body))) (record { answer = RecordOf (length q.body) next; body = q.body })).answer
-        (cond t (unanswered (refuse 23 (length q.body))) (record { answer = RecordOf (length q.body) next; body = q.body })).body
+        → Taken m f pl (cond t (unanswered (refuse 23 (length q.body))) (record { answer = Ok (RecordOf (length q.body) next); body = q.body })).answer
+        (cond t (unanswered (refuse 23 (length q.body))) (record { answer = Ok (RecordOf (length q.body) next); body = q.body })).body
     go true = tt
     go false = (q, refl, refl, e)
 met_taken m f pl room (gapped b next) e = tt
@@ -176,29 +173,29 @@ in_taken m f pl room = go (in_file f pl)
     go true = met_taken m f pl room (step m f pl) refl
     go false = tt
 
-opened_taken : (m : Mode) (f : File) (pl : Place) (c : Checked) (y : Reply) → Taken m f pl y.answer y.body → Taken m f pl (opened c y).answer (opened c y).body
-opened_taken m f pl Passed y h = h
-opened_taken m f pl (Stopped x) y h = tt
+opened_taken : (m : Mode) (f : File) (pl : Place) (c : Result ⊤ Refusal) (y : Reply) → Taken m f pl y.answer y.body → Taken m f pl (opened c y).answer (opened c y).body
+opened_taken m f pl (Ok _) y h = h
+opened_taken m f pl (Err x) y h = tt
 
-reply_taken : (image : List ℕ) (g : Geometry) → judged image ≡ Volume g → (m : Mode) (slot : ℕ) (pl : Place) (room : ℕ)
+reply_taken : (image : List ℕ) (g : Geometry) → judged image ≡ Ok g → (m : Mode) (slot : ℕ) (pl : Place) (room : ℕ)
     → Taken m (file_in g image (label_at g image slot)) pl (reply m image slot pl room).answer (reply m image slot pl room).body
 unfolding reply
 reply_taken image g j m slot pl room =
     let f = file_in g image (label_at g image slot) in
-    let e : reply m image slot pl room ≡ opened (open_refusal g image slot) (reply_in m f pl room) = ap (λ (v : Judged). reply_on v m image slot pl room) j in
+    let e : reply m image slot pl room ≡ opened (open_refusal g image slot) (reply_in m f pl room) = ap (λ (v : Result Geometry Refusal). reply_on v m image slot pl room) j in
     subst (λ (y : Reply). Taken m f pl y.answer y.body) (sym e) (opened_taken m f pl (open_refusal g image slot) (reply_in m f pl room) (in_taken m f pl room))
 
 -- NO RECORD IS EVER JOINED OUT OF TWO OTHERS: the bytes that a reading lays in the output are the record of the file that stands first ahead of the place that
 -- was asked, behind what is dropped where the mark counts
-pub record_stands : (image : List ℕ) (g : Geometry) → judged image ≡ Volume g → (m : Mode) (slot : ℕ) (pl : Place) (out : List ℕ) (k : ℕ) (next : Place)
-    → read_answer m image slot pl out ≡ RecordOf k next
+pub record_stands : (image : List ℕ) (g : Geometry) → judged image ≡ Ok g → (m : Mode) (slot : ℕ) (pl : Place) (out : List ℕ) (k : ℕ) (next : Place)
+    → read_answer m image slot pl out ≡ Ok (RecordOf k next)
     → (r : FileRecord) × (take k (output_after m image slot pl out) ≡ r.body)
     × Stands (entering m (file_in g image (label_at g image slot)).params.format pl.offset pl.mark)
     (ahead (file_in g image (label_at g image slot)).params (file_in g image (label_at g image slot)).blocks pl.block pl.offset) r next
 record_stands image g j m slot pl out k next h =
     let f = file_in g image (label_at g image slot) in
     let body = (reply m image slot pl (length out)).body in
-    let y : Taken m f pl (RecordOf k next) body = subst (λ (a : Answer). Taken m f pl a body) h (reply_taken image g j m slot pl (length out)) in
+    let y : Taken m f pl (Ok (RecordOf k next)) body = subst (λ (a : Result Answer Refusal). Taken m f pl a body) h (reply_taken image g j m slot pl (length out)) in
     let n : k ≡ length body = y.2 ∙ ap length (sym y.1) in (
       y.0,
       ap (λ (i : ℕ). take i (laid_over body out)) n ∙ laid_record body out ∙ y.1,

@@ -2,7 +2,7 @@
 -- Assumes nothing.
 use Prim.Native.Nat.{ℕ, zero, suc}
 use Rattle.std.proofs.Common.{subst, sym, ◌∙◌, arith}
-use Rattle.std.specs.Prelude.{◌≡◌, Bool, true, false, length, take, ltb}
+use Rattle.std.specs.Prelude.{◌≡◌, Bool, true, false, length, take, ltb, Result, Ok, Err, ⊤}
 use Rattle.std.proofs.Math.Path.{refl, ap}
 use mathlib.Core.List.{List, [], ◌∷◌, ◌++◌, map}
 use Rattle.standard.specs.Refusals.{refuse}
@@ -16,9 +16,6 @@ use Rattle.standard.specs.Reading.{Reply, unanswered, reply, laid_over}
 use Rattle.standard.specs.declared.Geometry.{Geometry}
 use Rattle.standard.specs.declared.Refusal.{Refusal}
 use Rattle.standard.specs.declared.Place.{Place}
-use Rattle.standard.specs.declared.Checked.{Checked}
-use Rattle.standard.specs.declared.Checked.TheVariants.{Passed, Stopped}
-use Rattle.standard.specs.declared.Judged.TheVariants.{Volume}
 use Rattle.promises.specs.Reading.ReadingLaws.{Reads, reads_cons}
 use Rattle.promises.specs.Reading.ListedLaws.{Closed, listed_closed}
 use Rattle.promises.specs.Reading.Following.{Heard, told, gap_at, done, refused, onward, following, too_long, heard_in}
@@ -73,27 +70,27 @@ heard_whole room (suc n) (gap b ∷ is) c bodies h = absurd (gap_whole b _ bodie
 heard_whole room (suc n) (end ∷ is) c bodies h = end_whole is (heard_in room (take n is)) c bodies h
 heard_whole room (suc n) (no x ∷ is) c bodies h = absurd (refused_whole x _ bodies h)
 
-module _ (image : List ℕ) (g : Geometry) (slot : ℕ) (bodies : List (List ℕ)) (j : judged image ≡ Volume g) (w : ReadsWhole image slot bodies) where
+module _ (image : List ℕ) (g : Geometry) (slot : ℕ) (bodies : List (List ℕ)) (j : judged image ≡ Ok g) (w : ReadsWhole image slot bodies) where
   -- a file that is heard whole may be opened
-  stopped_reply : (m : Mode) (pl : Place) (room : ℕ) (x : Refusal) → open_refusal g image slot ≡ Stopped x → reply m image slot pl room ≡ unanswered x
+  stopped_reply : (m : Mode) (pl : Place) (room : ℕ) (x : Refusal) → open_refusal g image slot ≡ Err x → reply m image slot pl room ≡ unanswered x
   unfolding reply
   stopped_reply m pl room x e = rw (j, e)
 
-  stopped_heard : (n : ℕ) (out : List ℕ) (x : Refusal) → open_refusal g image slot ≡ Stopped x → following (suc n) plain image slot out start ≡ refused x ∷ []
+  stopped_heard : (n : ℕ) (out : List ℕ) (x : Refusal) → open_refusal g image slot ≡ Err x → following (suc n) plain image slot out start ≡ refused x ∷ []
   unfolding following
   stopped_heard n out x e =
       ap (λ (r : Reply). onward r.answer (laid_over r.body out) (λ out' pl. following n plain image slot out' pl)) (stopped_reply plain start (length out) x e)
 
-  whole_opens : (n : ℕ) (out : List ℕ) → Whole (following n plain image slot out start) bodies → open_refusal g image slot ≡ Passed
+  whole_opens : (n : ℕ) (out : List ℕ) → Whole (following n plain image slot out start) bodies → open_refusal g image slot ≡ Ok tt
   unfolding following
   whole_opens zero out h = absurd (none_whole bodies h)
   whole_opens (suc n) out h = go (open_refusal g image slot) refl
     where
-      go : (c : Checked) → open_refusal g image slot ≡ c → open_refusal g image slot ≡ Passed
-      go Passed e = e
-      go (Stopped x) e = absurd (refused_whole x [] bodies (sym (stopped_heard n out x e) ∙ h))
+      go : (c : Result ⊤ Refusal) → open_refusal g image slot ≡ c → open_refusal g image slot ≡ Ok tt
+      go (Ok _) e = e
+      go (Err x) e = absurd (refused_whole x [] bodies (sym (stopped_heard n out x e) ∙ h))
 
-  pub opens_whole : open_refusal g image slot ≡ Passed
+  pub opens_whole : open_refusal g image slot ≡ Ok tt
   opens_whole = whole_opens w.readings w.out w.hears
 
   pub reads_whole : Reads (listed plain (file_in g image (label_at g image slot))) bodies

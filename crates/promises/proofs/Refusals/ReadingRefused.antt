@@ -1,7 +1,7 @@
 -- "Reading: 13-19, then 20-22 as blocks are met, 23 last": a reading refuses exactly with the first of that list. "Bytes behind a record in the output stay
 -- too." And the places that a reading hands out: they are in the file.
 -- Assumes nothing.
-use Rattle.std.specs.Prelude.{ℕ, suc, ◌≤◌, ◌<◌, ◌≡◌, refl, Bool, true, false, cond, not, length, get_or, drop, ltb}
+use Rattle.std.specs.Prelude.{ℕ, suc, ◌≤◌, ◌<◌, ◌≡◌, refl, Bool, true, false, cond, not, length, get_or, drop, ltb, Result, Ok, Err, ⊤}
 use Rattle.std.proofs.Common.{sym, ◌∙◌, length-append, length-drop, arith, le_refl, ltb-false}
 use Rattle.std.proofs.Math.Path.{ap, subst}
 use mathlib.Core.List.{List, [], ◌∷◌, ◌++◌}
@@ -18,12 +18,8 @@ use Rattle.standard.specs.Layout.{label_at}
 use Rattle.standard.specs.declared.Geometry.{Geometry}
 use Rattle.standard.specs.declared.Place.{Place}
 use Rattle.standard.specs.declared.Refusal.{Refusal}
-use Rattle.standard.specs.declared.Checked.{Checked}
-use Rattle.standard.specs.declared.Checked.TheVariants.{Passed, Stopped}
-use Rattle.standard.specs.declared.Judged.{Judged}
-use Rattle.standard.specs.declared.Judged.TheVariants.{Refused, Volume}
 use Rattle.standard.specs.declared.Answer.{Answer}
-use Rattle.standard.specs.declared.Answer.TheVariants.{Unanswered, Record as RecordOf, Gap, End}
+use Rattle.standard.specs.declared.Answer.TheVariants.{Record as RecordOf, Gap, End}
 use Rattle.promises.specs.Ground.Lists.{Every}
 use Rattle.promises.specs.Volumes.Judging.{order_append}
 use Rattle.promises.specs.Reading.PiecesLaws.{drop_tail}
@@ -34,64 +30,64 @@ use Rattle.promises.specs.Refusals.Refusing.{Exactly, First, order_first, first_
 use Rattle.promises.specs.Ground.Basics.{never, either, lt_or_le}
 
 -- 20, 21 or 22, as blocks are met
-abbrev pub met_refusal : Met → Checked
-met_refusal (took r pl) = Passed
-met_refusal (gapped b pl) = Passed
-met_refusal ended = Passed
-met_refusal (refused r) = Stopped r
+abbrev pub met_refusal : Met → Result ⊤ Refusal
+met_refusal (took r pl) = Ok tt
+met_refusal (gapped b pl) = Ok tt
+met_refusal ended = Ok tt
+met_refusal (refused r) = Err r
 
 -- 23 "output too small", length needed
-abbrev pub too_small : ℕ → Met → Checked
+abbrev pub too_small : ℕ → Met → Result ⊤ Refusal
 too_small room (took r pl) = given_when (ltb room (length r.body)) (refuse 23 (length r.body))
-too_small room (gapped b pl) = Passed
-too_small room ended = Passed
-too_small room (refused r) = Passed
+too_small room (gapped b pl) = Ok tt
+too_small room ended = Ok tt
+too_small room (refused r) = Ok tt
 
 -- behind those of opening the file
-abbrev pub place_list : Mode → File → Place → ℕ → List Checked
+abbrev pub place_list : Mode → File → Place → ℕ → List (Result ⊤ Refusal)
 place_list m f pl room = given_when (not (in_file f pl)) (refuse 19 0) ∷ met_refusal (step m f pl) ∷ too_small room (step m f pl) ∷ []
 
 -- THE LIST: "13-19, then 20-22 as blocks are met, 23 last"
-abbrev pub read_list : Mode → Geometry → List ℕ → ℕ → Place → ℕ → List Checked
+abbrev pub read_list : Mode → Geometry → List ℕ → ℕ → Place → ℕ → List (Result ⊤ Refusal)
 read_list m g image slot pl room = open_list g image slot ++ place_list m (file_in g image (label_at g image slot)) pl room
 
-met_stops : (f : File) (room : ℕ) (s : Met) (r : Refusal) → Exactly ((replied f room s).answer ≡ Unanswered r) (in_order (met_refusal s ∷ too_small room s ∷ []) ≡ Stopped r)
+met_stops : (f : File) (room : ℕ) (s : Met) (r : Refusal) → Exactly ((replied f room s).answer ≡ Err r) (in_order (met_refusal s ∷ too_small room s ∷ []) ≡ Err r)
 unfolding in_order given_when
 met_stops f room (took q pl) r = go (ltb room (length q.body))
   where
     go : (t : Bool)
-        → Exactly ((cond t (unanswered (refuse 23 (length q.body))) (record { answer = RecordOf (length q.body) pl; body = q.body })).answer ≡ Unanswered r)
-        (in_order (given_when t (refuse 23 (length q.body)) ∷ []) ≡ Stopped r)
+        → Exactly ((cond t (unanswered (refuse 23 (length q.body))) (record { answer = Ok (RecordOf (length q.body) pl); body = q.body })).answer ≡ Err r)
+        (in_order (given_when t (refuse 23 (length q.body)) ∷ []) ≡ Err r)
     go true = ((λ h. cc), (λ h. cc))
     go false = ((λ h. never (cc)), (λ h. never (cc)))
 met_stops f room (gapped b pl) r = ((λ h. never (cc)), (λ h. never (cc)))
 met_stops f room ended r = ((λ h. never (cc)), (λ h. never (cc)))
 met_stops f room (refused x) r = ((λ h. cc), (λ h. cc))
 
-place_stops : (m : Mode) (f : File) (pl : Place) (room : ℕ) (r : Refusal) → Exactly ((reply_in m f pl room).answer ≡ Unanswered r) (in_order (place_list m f pl room) ≡ Stopped r)
+place_stops : (m : Mode) (f : File) (pl : Place) (room : ℕ) (r : Refusal) → Exactly ((reply_in m f pl room).answer ≡ Err r) (in_order (place_list m f pl room) ≡ Err r)
 unfolding reply_in in_order given_when
 place_stops m f pl room r = go (in_file f pl)
   where
-    go : (t : Bool) → Exactly ((cond t (replied f room (step m f pl)) (unanswered (refuse 19 0))).answer ≡ Unanswered r)
-        (in_order (given_when (not t) (refuse 19 0) ∷ met_refusal (step m f pl) ∷ too_small room (step m f pl) ∷ []) ≡ Stopped r)
+    go : (t : Bool) → Exactly ((cond t (replied f room (step m f pl)) (unanswered (refuse 19 0))).answer ≡ Err r)
+        (in_order (given_when (not t) (refuse 19 0) ∷ met_refusal (step m f pl) ∷ too_small room (step m f pl) ∷ []) ≡ Err r)
     go true = met_stops f room (step m f pl) r
     go false = ((λ h. cc), (λ h. cc))
 
-opened_stops : (c d : Checked) (y : Reply) (r : Refusal) → Exactly (y.answer ≡ Unanswered r) (d ≡ Stopped r)
-    → Exactly ((opened c y).answer ≡ Unanswered r) (or_else c d ≡ Stopped r)
+opened_stops : (c d : Result ⊤ Refusal) (y : Reply) (r : Refusal) → Exactly (y.answer ≡ Err r) (d ≡ Err r)
+    → Exactly ((opened c y).answer ≡ Err r) (or_else c d ≡ Err r)
 unfolding or_else
-opened_stops Passed d y r h = h
-opened_stops (Stopped x) d y r h = ((λ k. cc), (λ k. cc))
+opened_stops (Ok _) d y r h = h
+opened_stops (Err x) d y r h = ((λ k. cc), (λ k. cc))
 
 -- A READING REFUSES EXACTLY WITH THE FIRST OF ITS LIST
-pub read_first : (image : List ℕ) (g : Geometry) → judged image ≡ Volume g → (m : Mode) (slot : ℕ) (pl : Place) (out : List ℕ) (r : Refusal)
-    → Exactly (read_answer m image slot pl out ≡ Unanswered r) (First r (read_list m g image slot pl (length out)))
+pub read_first : (image : List ℕ) (g : Geometry) → judged image ≡ Ok g → (m : Mode) (slot : ℕ) (pl : Place) (out : List ℕ) (r : Refusal)
+    → Exactly (read_answer m image slot pl out ≡ Err r) (First r (read_list m g image slot pl (length out)))
 unfolding reply open_refusal
 read_first image g j m slot pl out r =
     let f = file_in g image (label_at g image slot) in
     let room = length out in
     let e : read_answer m image slot pl out ≡ (opened (open_refusal g image slot) (reply_in m f pl room)).answer =
-    ap (λ (v : Judged). (reply_on v m image slot pl room).answer) j in
+    ap (λ (v : Result Geometry Refusal). (reply_on v m image slot pl room).answer) j in
     let x = opened_stops (in_order (open_list g image slot)) (in_order (place_list m f pl room)) (reply_in m f pl room) r (place_stops m f pl room r) in
     let o : in_order (read_list m g image slot pl room) ≡ or_else (in_order (open_list g image slot)) (in_order (place_list m f pl room)) =
     order_append (open_list g image slot) (place_list m f pl room) in (
@@ -101,18 +97,18 @@ read_first image g j m slot pl out r =
 
 -- ---- "Bytes behind a record in the output stay too"
 -- a reply that is a record has a body of the length that it names, and there is room for it
-abbrev Roomy : ℕ → Answer → List ℕ → Type 0
-Roomy room (Unanswered r) body = Unit {0}
-Roomy room (RecordOf n pl) body = (length body ≡ n) × (n ≤ room)
-Roomy room (Gap pl) body = Unit {0}
-Roomy room (End pl) body = Unit {0}
+abbrev Roomy : ℕ → Result Answer Refusal → List ℕ → Type 0
+Roomy room (Err r) body = Unit {0}
+Roomy room (Ok (RecordOf n pl)) body = (length body ≡ n) × (n ≤ room)
+Roomy room (Ok (Gap pl)) body = Unit {0}
+Roomy room (Ok (End pl)) body = Unit {0}
 
 replied_roomy : (f : File) (room : ℕ) (s : Met) → Roomy room (replied f room s).answer (replied f room s).body
 replied_roomy f room (took q pl) = go (ltb room (length q.body)) refl
   where
     go : (t : Bool) → ltb room (length q.body) ≡ t
-        → Roomy room (cond t (unanswered (refuse 23 (length q.body))) (record { answer = RecordOf (length q.body) pl; body = q.body })).answer
-        (cond t (unanswered (refuse 23 (length q.body))) (record { answer = RecordOf (length q.body) pl; body = q.body })).body
+        → Roomy room (cond t (unanswered (refuse 23 (length q.body))) (record { answer = Ok (RecordOf (length q.body) pl); body = q.body })).answer
+        (cond t (unanswered (refuse 23 (length q.body))) (record { answer = Ok (RecordOf (length q.body) pl); body = q.body })).body
     go true e = tt
     go false e = (refl, ltb-false room (length q.body) e)
 replied_roomy f room (gapped b pl) = tt
@@ -127,14 +123,14 @@ in_roomy m f pl room = go (in_file f pl)
     go true = replied_roomy f room (step m f pl)
     go false = tt
 
-opened_roomy : (room : ℕ) (c : Checked) (y : Reply) → Roomy room y.answer y.body → Roomy room (opened c y).answer (opened c y).body
-opened_roomy room Passed y h = h
-opened_roomy room (Stopped x) y h = tt
+opened_roomy : (room : ℕ) (c : Result ⊤ Refusal) (y : Reply) → Roomy room y.answer y.body → Roomy room (opened c y).answer (opened c y).body
+opened_roomy room (Ok _) y h = h
+opened_roomy room (Err x) y h = tt
 
-on_roomy : (v : Judged) (m : Mode) (image : List ℕ) (slot : ℕ) (pl : Place) (room : ℕ)
+on_roomy : (v : Result Geometry Refusal) (m : Mode) (image : List ℕ) (slot : ℕ) (pl : Place) (room : ℕ)
     → Roomy room (reply_on v m image slot pl room).answer (reply_on v m image slot pl room).body
-on_roomy (Refused r) m image slot pl room = tt
-on_roomy (Volume g) m image slot pl room =
+on_roomy (Err r) m image slot pl room = tt
+on_roomy (Ok g) m image slot pl room =
     let f = file_in g image (label_at g image slot) in
     opened_roomy room (open_refusal g image slot) (reply_in m f pl room) (in_roomy m f pl room)
 
@@ -150,11 +146,11 @@ laid_behind body out k e l =
       length-append body (drop (length body) out) ∙ rw (length-drop (length body) out) (omega arith),
     )
 
-pub record_laid : (m : Mode) (image : List ℕ) (slot : ℕ) (pl : Place) (out : List ℕ) (k : ℕ) (next : Place) → read_answer m image slot pl out ≡ RecordOf k next
+pub record_laid : (m : Mode) (image : List ℕ) (slot : ℕ) (pl : Place) (out : List ℕ) (k : ℕ) (next : Place) → read_answer m image slot pl out ≡ Ok (RecordOf k next)
     → (k ≤ length out) × (drop k (output_after m image slot pl out) ≡ drop k out) × (length (output_after m image slot pl out) ≡ length out)
 record_laid m image slot pl out k next h =
     let body = (reply m image slot pl (length out)).body in
-    let y : Roomy (length out) (RecordOf k next) body = subst (λ (a : Answer). Roomy (length out) a body) h (roomy m image slot pl (length out)) in
+    let y : Roomy (length out) (Ok (RecordOf k next)) body = subst (λ (a : Result Answer Refusal). Roomy (length out) a body) h (roomy m image slot pl (length out)) in
     let b = laid_behind body out k y.0 y.1 in
     (y.1, b.0, b.1)
 
@@ -246,16 +242,16 @@ unfolding step ahead
 step_gaps m f pl = tail_gaps f m pl.block pl.offset (drop pl.block f.blocks) refl (entering m f.params.format pl.offset pl.mark)
 
 -- what an answer's place has to be
-abbrev Handed : File → ℕ → Answer → Type 0
-Handed f a (Unanswered r) = Unit {0}
-Handed f a (RecordOf n next) = in_file f next ≡ true
-Handed f a (Gap next) = (in_file f next ≡ true) × (b : ℕ) × FirstLost f a b × (next ≡ record { block = suc b; offset = 0; mark = true })
-Handed f a (End next) = (in_file f next ≡ true) × (next ≡ end_place (length f.blocks))
+abbrev Handed : File → ℕ → Result Answer Refusal → Type 0
+Handed f a (Err r) = Unit {0}
+Handed f a (Ok (RecordOf n next)) = in_file f next ≡ true
+Handed f a (Ok (Gap next)) = (in_file f next ≡ true) × (b : ℕ) × FirstLost f a b × (next ≡ record { block = suc b; offset = 0; mark = true })
+Handed f a (Ok (End next)) = (in_file f next ≡ true) × (next ≡ end_place (length f.blocks))
 
 met_handed : (f : File) (a room : ℕ) (s : Met) → Landed f s → Gaps f a s → Handed f a (replied f room s).answer
 met_handed f a room (took q pl) l k = go (ltb room (length q.body))
   where
-    go : (t : Bool) → Handed f a (cond t (unanswered (refuse 23 (length q.body))) (record { answer = RecordOf (length q.body) pl; body = q.body })).answer
+    go : (t : Bool) → Handed f a (cond t (unanswered (refuse 23 (length q.body))) (record { answer = Ok (RecordOf (length q.body) pl); body = q.body })).answer
     go true = tt
     go false = l
 met_handed f a room (gapped b pl) l k = (l, b, k.0, k.1)
@@ -270,32 +266,32 @@ in_handed m f pl room = go (in_file f pl) refl
     go true e = met_handed f pl.block room (step m f pl) (step_lands m f pl e) (step_gaps m f pl)
     go false e = tt
 
-opened_handed : (f : File) (a : ℕ) (c : Checked) (y : Reply) → Handed f a y.answer → Handed f a (opened c y).answer
-opened_handed f a Passed y h = h
-opened_handed f a (Stopped x) y h = tt
+opened_handed : (f : File) (a : ℕ) (c : Result ⊤ Refusal) (y : Reply) → Handed f a y.answer → Handed f a (opened c y).answer
+opened_handed f a (Ok _) y h = h
+opened_handed f a (Err x) y h = tt
 
-module _ (image : List ℕ) (g : Geometry) (j : judged image ≡ Volume g) (m : Mode) (slot : ℕ) (pl : Place) (out : List ℕ) (next : Place) where
-  handed : (a : Answer) → read_answer m image slot pl out ≡ a → Handed (file_in g image (label_at g image slot)) pl.block a
+module _ (image : List ℕ) (g : Geometry) (j : judged image ≡ Ok g) (m : Mode) (slot : ℕ) (pl : Place) (out : List ℕ) (next : Place) where
+  handed : (a : Result Answer Refusal) → read_answer m image slot pl out ≡ a → Handed (file_in g image (label_at g image slot)) pl.block a
   unfolding reply
   handed a h =
       let f = file_in g image (label_at g image slot) in
       let e : read_answer m image slot pl out ≡ (opened (open_refusal g image slot) (reply_in m f pl (length out))).answer =
-      ap (λ (v : Judged). (reply_on v m image slot pl (length out)).answer) j in
+      ap (λ (v : Result Geometry Refusal). (reply_on v m image slot pl (length out)).answer) j in
       subst (Handed f pl.block) (sym e ∙ h) (opened_handed f pl.block (open_refusal g image slot) (reply_in m f pl (length out)) (in_handed m f pl (length out)))
 
   -- A PLACE BEHIND A RECORD IS IN THE FILE
-  pub record_next : (k : ℕ) → read_answer m image slot pl out ≡ RecordOf k next → in_file (file_in g image (label_at g image slot)) next ≡ true
-  record_next k h = handed (RecordOf k next) h
+  pub record_next : (k : ℕ) → read_answer m image slot pl out ≡ Ok (RecordOf k next) → in_file (file_in g image (label_at g image slot)) next ≡ true
+  record_next k h = handed (Ok (RecordOf k next)) h
 
   -- A PLACE BEHIND A GAP IS IN THE FILE: the start, marked, of the block behind the first lost one from the place on
-  pub gap_next : read_answer m image slot pl out ≡ Gap next
+  pub gap_next : read_answer m image slot pl out ≡ Ok (Gap next)
       → (in_file (file_in g image (label_at g image slot)) next ≡ true)
       × (b : ℕ) × FirstLost (file_in g image (label_at g image slot)) pl.block b × (next ≡ record { block = suc b; offset = 0; mark = true })
-  gap_next h = handed (Gap next) h
+  gap_next h = handed (Ok (Gap next)) h
 
   -- END'S PLACE IS THE FILE'S END
-  pub end_next : read_answer m image slot pl out ≡ End next
+  pub end_next : read_answer m image slot pl out ≡ Ok (End next)
       → (in_file (file_in g image (label_at g image slot)) next ≡ true) × (next ≡ end_place (block_count g image (label_at g image slot)))
   end_next h =
-      let y = handed (End next) h in
+      let y = handed (Ok (End next)) h in
       (y.0, y.1 ∙ ap end_place (file_count g image (label_at g image slot)))

@@ -1,7 +1,7 @@
 -- What failed sectors do to a volume and to a file: the volume stays accepted, the file may be opened, and it is the file with the hit blocks lost.
 -- Assumes nothing.
 use Prim.Native.Nat.{ℕ, zero, suc, ◌+◌, ◌*◌, ◌<◌, ◌≤◌}
-use Rattle.std.specs.Prelude.{◌≡◌, ◌&&◌, Bool, ◌||◌, length, take, eqb}
+use Rattle.std.specs.Prelude.{◌≡◌, ◌&&◌, Bool, ◌||◌, length, take, eqb, Ok}
 use Rattle.std.proofs.Math.Path.{refl, sym, ap}
 use Rattle.std.proofs.Common.{◌∙◌, length-drop, drop-drop, arith, zero-mul}
 use Rattle.std.proofs.Math.Bool.{true, false, cond}
@@ -17,8 +17,6 @@ use Rattle.standard.specs.Damage.{damage, damaged}
 use Rattle.standard.specs.Files.{extent, is_defective, good_among, good_records, records_to_block, block_count, is_wrong, wrong_among, refusal17, content_size, any_failed, bytes_of, block_of, blocks_from, open_refusal, file_in}
 use Rattle.standard.specs.declared.Geometry.{Geometry}
 use Rattle.standard.specs.declared.Address.{Address}
-use Rattle.standard.specs.declared.Checked.TheVariants.{Passed}
-use Rattle.standard.specs.declared.Judged.TheVariants.{Volume}
 use Rattle.promises.specs.Ground.Basics.{by_test, true_not_false, or_l, or_r, or_right}
 use Rattle.promises.specs.Ground.Lists.{Every, every_drop, every_map}
 use Rattle.promises.specs.Images.AddressLaws.{Legal}
@@ -55,7 +53,7 @@ module _ (g : Geometry) (hit : ℕ → Bool) (image image' : List ℕ) (fail : F
   unfolding AgreeOn
   index_agrees s n l = by_test (hit n) (λ t. absurd (omega (arith, s n t, ltb-true n (index_sectors g) l))) (fail.others n)
 
-  pub failed_volume : ((n : ℕ) → hit n ≡ true → index_sectors g ≤ n) → judged image ≡ Volume g → judged image' ≡ Volume g
+  pub failed_volume : ((n : ℕ) → hit n ≡ true → index_sectors g ≤ n) → judged image ≡ Ok g → judged image' ≡ Ok g
   failed_volume s j =
       judged_from image' g
       (accepted_too g image image' (numbers_of_lem image g j) (index_agrees s) fail.same_length kinds_legal (accepted image g j))
@@ -83,7 +81,7 @@ module _ (g : Geometry) (hit : ℕ → Bool) (image image' : List ℕ) (fail : F
       (λ (t : hit (ordinal g a) ≡ true). rw (failed_correct g image' (ordinal g a) (fail.failed (ordinal g a) t)))
       (λ (t : hit (ordinal g a) ≡ false). sym (same_wrong g image image' p a (fail.others (ordinal g a) t)) ∙ k)
 
-  wrongs_kept : 0 < g.P → (xs : List Address) → wrong_among g image xs ≡ Passed → wrong_among g image' xs ≡ Passed
+  wrongs_kept : 0 < g.P → (xs : List Address) → wrong_among g image xs ≡ Ok tt → wrong_among g image' xs ≡ Ok tt
   wrongs_kept p xs k =
       wrong_none g image' xs (every_map (λ a. is_wrong g image a ≡ false) (λ a. is_wrong g image' a ≡ false) (wrong_kept p) xs (none_wrong g image xs k))
 
@@ -158,16 +156,16 @@ module _ (g : Geometry) (hit : ℕ → Bool) (image image' : List ℕ) (fail : F
         )
 
   -- it may be opened
-  module _ (slot : ℕ) (j : judged image ≡ Volume g) (s : Spares g hit image (label_at g image slot)) (ok : open_refusal g image slot ≡ Passed) where
+  module _ (slot : ℕ) (j : judged image ≡ Ok g) (s : Spares g hit image (label_at g image slot)) (ok : open_refusal g image slot ≡ Ok tt) where
     pub failed_label : label_at g image slot ≡ label_at g image' slot
     failed_label =
         index_label g image image' (numbers_of_lem image g j) (index_agrees s.index) slot (has_slot g image slot (open_label g image slot ok)).1
 
-    wrongs_passed : refusal17 g image (label_at g image slot) ≡ Passed
+    wrongs_passed : refusal17 g image (label_at g image slot) ≡ Ok tt
     unfolding open_refusal
     wrongs_passed = let (r13, (r14, (r15, (r16, (r17, _))))) = order_each _ ok in r17
 
-    pub failed_open : open_refusal g image' slot ≡ Passed
+    pub failed_open : open_refusal g image' slot ≡ Ok tt
     unfolding open_refusal
     failed_open =
         let h = label_at g image slot in

@@ -1,6 +1,6 @@
 -- PLAIN READING OF A FAILED IMAGE: the records that ended before the first lost block, and then refusal 20.
 -- Assumes nothing.
-use Rattle.std.specs.Prelude.{ℕ, zero, suc, ◌+◌, ◌≤◌, ◌<◌, ◌≡◌, refl, Bool, true, false, cond, ◌⊎◌, length, take, ltb}
+use Rattle.std.specs.Prelude.{ℕ, zero, suc, ◌+◌, ◌≤◌, ◌<◌, ◌≡◌, refl, Bool, true, false, cond, ◌⊎◌, length, take, ltb, Ok}
 use Rattle.std.proofs.Common.{sym, ap, subst, ◌∙◌, inl, inr, le_refl, lt-ltb, le-ltb}
 use mathlib.Core.List.{List, [], ◌∷◌, ◌++◌, map}
 use native.Mathlib.Omega.{arith}
@@ -14,7 +14,6 @@ use Rattle.standard.specs.Files.{block_count, file_in}
 use Rattle.standard.specs.Damage.{damage, damaged}
 use Rattle.standard.specs.Labels.{Params}
 use Rattle.standard.specs.declared.Geometry.{Geometry}
-use Rattle.standard.specs.declared.Judged.TheVariants.{Volume}
 use Rattle.promises.specs.Ground.Basics.{either, lt_or_le}
 use Rattle.promises.specs.Reading.ReadingLaws.{read_all_listed, Clean, body_of}
 use Rattle.promises.specs.Ground.Lists.{Every}
@@ -211,7 +210,7 @@ PlainlyRead g hit image image' slot rs =
 -- A file is read whole, plainly; then any sectors behind the index cylinder fail, other files' too, but no record of this file's extent that is not good.
 unfoldable pub PlainFailedAnyPromise : Type 0
 PlainFailedAnyPromise = (image image' : List ℕ) (g : Geometry) (slot : ℕ) (bodies : List (List ℕ)) (hit : ℕ → Bool)
-    → judged image ≡ Volume g → ReadsWhole image slot bodies
+    → judged image ≡ Ok g → ReadsWhole image slot bodies
     → Failed g hit image image' → Spares g hit image (label_at g image slot)
     → (rs : List FileRecord) × (map body_of rs ≡ bodies) × PlainlyRead g hit image image' slot rs
 

@@ -1,6 +1,6 @@
 -- Salvage at the image: a file that plain reading reads to End, and sectors that then fail.
 -- Assumes nothing.
-use Rattle.std.specs.Prelude.{ℕ, zero, suc, ◌*◌, ◌≤◌, ◌≡◌, refl, Bool, true, false, cond, ◌&&◌, List, [], ◌∷◌, ◌++◌, map, length, take, drop, eqb}
+use Rattle.std.specs.Prelude.{ℕ, zero, suc, ◌*◌, ◌≤◌, ◌≡◌, refl, Bool, true, false, cond, ◌&&◌, List, [], ◌∷◌, ◌++◌, map, length, take, drop, eqb, Ok}
 use Rattle.std.proofs.Common.{sym, subst, ◌∙◌, append_assoc}
 use Rattle.std.proofs.Math.Path.{ap}
 use Rattle.standard.specs.Layout.{index_sectors, label_at}
@@ -13,8 +13,6 @@ use Rattle.standard.specs.Files.{good_records, block_count, blocks_from, open_re
 use Rattle.standard.specs.Damage.{damaged, spared, ending_in, remains, records_in, gaps_in, gone_of}
 use Rattle.standard.specs.declared.Geometry.{Geometry}
 use Rattle.standard.specs.declared.Address.{Address}
-use Rattle.standard.specs.declared.Checked.TheVariants.{Passed}
-use Rattle.standard.specs.declared.Judged.TheVariants.{Volume}
 use Rattle.promises.specs.Ground.Lists.{every_take, every_drop, every_map}
 use Rattle.promises.specs.Images.AddressLaws.{Legal, ordinal_ge}
 use Rattle.promises.specs.Images.Sectors.{sector_of}
@@ -66,13 +64,13 @@ fits_remains room lost (suc n) b rs f =
     subst (Fits room) (sym (assoc (lost b) (gap b ∷ []) (ending_in lost b rs) (remains lost (suc b) n rs) (end ∷ [])))
     (fits_block room (lost b) lost b rs (remains lost (suc b) n rs ++ (end ∷ [])) f (fits_remains room lost n (suc b) rs f))
 
-module _ (image image' : List ℕ) (g : Geometry) (slot : ℕ) (hit : ℕ → Bool) (rs : List FileRecord) (j : judged image ≡ Volume g)
-    (ok : open_refusal g image slot ≡ Passed) (clean : Clean (listed plain (file_in g image (label_at g image slot))) rs)
+module _ (image image' : List ℕ) (g : Geometry) (slot : ℕ) (hit : ℕ → Bool) (rs : List FileRecord) (j : judged image ≡ Ok g)
+    (ok : open_refusal g image slot ≡ Ok tt) (clean : Clean (listed plain (file_in g image (label_at g image slot))) rs)
     (fail : Failed g hit image image') (s : Spares g hit image (label_at g image slot)) where
-  volume_is : judged image' ≡ Volume g
+  volume_is : judged image' ≡ Ok g
   volume_is = failed_volume g hit image image' fail s.index j
 
-  opens_is : open_refusal g image' slot ≡ Passed
+  opens_is : open_refusal g image' slot ≡ Ok tt
   opens_is = failed_open g hit image image' fail slot j s ok
 
   label_is : label_at g image slot ≡ label_at g image' slot
@@ -125,7 +123,7 @@ module _ (image image' : List ℕ) (g : Geometry) (slot : ℕ) (hit : ℕ → Bo
       }
 
 -- where only sectors of the file's good records fail, nothing else is to be asked
-only_good : (image : List ℕ) (g : Geometry) (slot : ℕ) (hit : ℕ → Bool) → judged image ≡ Volume g → open_refusal g image slot ≡ Passed
+only_good : (image : List ℕ) (g : Geometry) (slot : ℕ) (hit : ℕ → Bool) → judged image ≡ Ok g → open_refusal g image slot ≡ Ok tt
     → ((n : ℕ) → hit n ≡ true → sector_of g (good_records g image (label_at g image slot)) n ≡ true) → Spares g hit image (label_at g image slot)
 only_good image g slot hit j ok k =
     record {
@@ -144,7 +142,7 @@ sector_part g o m xs =
     (every_take (λ a. sector_of g xs (ordinal g a) ≡ true) m (drop o xs)
     (every_drop (λ a. sector_of g xs (ordinal g a) ≡ true) o xs (every_sector (λ i. sector_of g xs i ≡ true) g xs (λ i e. e))))
 
-pub only_blocks : (image : List ℕ) (g : Geometry) (slot : ℕ) (hit : ℕ → Bool) → judged image ≡ Volume g → open_refusal g image slot ≡ Passed
+pub only_blocks : (image : List ℕ) (g : Geometry) (slot : ℕ) (hit : ℕ → Bool) → judged image ≡ Ok g → open_refusal g image slot ≡ Ok tt
     → OfBlocks g hit image (label_at g image slot) → Spares g hit image (label_at g image slot)
 unfolding OfBlocks records_of
 only_blocks image g slot hit j ok k =

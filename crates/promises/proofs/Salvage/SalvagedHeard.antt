@@ -1,7 +1,7 @@
 -- "Meeting it, also midway in a spanned record, gives one gap and the next block's start, marked": what is heard of a file after a failure, into an output
 -- of any size; and after a write, then a failure.
 -- Assumes nothing.
-use Rattle.std.specs.Prelude.{ℕ, zero, suc, ◌≡◌, refl, Bool, true, false, cond, ◌&&◌, length, take, ltb, eqb}
+use Rattle.std.specs.Prelude.{ℕ, zero, suc, ◌≡◌, refl, Bool, true, false, cond, ◌&&◌, length, take, ltb, eqb, Ok}
 use Rattle.std.proofs.Common.{ap, subst, ◌∙◌}
 use mathlib.Core.List.{List, [], ◌∷◌, ◌++◌, map, Memᴰ}
 use Rattle.standard.specs.Layout.{label_at}
@@ -13,8 +13,6 @@ use Rattle.standard.specs.Damage.{remains, spared, ending_in}
 use Rattle.standard.specs.Files.{block_count}
 use Rattle.standard.specs.Writing.{parted, write_refusal, image_after}
 use Rattle.standard.specs.declared.Geometry.{Geometry}
-use Rattle.standard.specs.declared.Checked.TheVariants.{Passed}
-use Rattle.standard.specs.declared.Judged.TheVariants.{Volume}
 use Rattle.promises.specs.Ground.Basics.{either, never}
 use Rattle.promises.specs.Reading.ReadingLaws.{body_of}
 use Rattle.promises.specs.Reading.Following.{Heard, told, gap_at, done, refused, following, too_long, heard_in}
@@ -105,7 +103,7 @@ salvaged_heard image image' g slot hit rs s n out =
 -- DEMAND 3 FOR AN OUTPUT OF ANY SIZE: a file that was read whole; any sectors fail but those of the index cylinder and of the file's defective records
 unfoldable pub SalvageHeardPromise : Type 0
 SalvageHeardPromise = (image image' : List ℕ) (g : Geometry) (slot : ℕ) (bodies : List (List ℕ)) (hit : ℕ → Bool)
-    → judged image ≡ Volume g → ReadsWhole image slot bodies
+    → judged image ≡ Ok g → ReadsWhole image slot bodies
     → Failed g hit image image' → Spares g hit image (label_at g image slot)
     → (rs : List FileRecord) × (map body_of rs ≡ bodies) × Salvaged g hit image image' slot rs
     × ((n : ℕ) (out : List ℕ) → following n salvage image' slot out start ≡ heard_in (length out) (take n (expected g hit image (label_at g image slot) rs)))
@@ -119,7 +117,7 @@ salvage_heard_promise image image' g slot bodies hit j w fail s =
 -- "No record is ever joined out of two others", into an output of any size
 unfoldable pub NeverJoinedAnyPromise : Type 0
 NeverJoinedAnyPromise = (image image' : List ℕ) (g : Geometry) (slot : ℕ) (bodies : List (List ℕ)) (hit : ℕ → Bool)
-    → judged image ≡ Volume g → ReadsWhole image slot bodies
+    → judged image ≡ Ok g → ReadsWhole image slot bodies
     → Failed g hit image image' → Spares g hit image (label_at g image slot)
     → (n : ℕ) (out body : List ℕ) → Memᴰ (told body) (following n salvage image' slot out start) → Memᴰ body bodies
 
@@ -135,7 +133,7 @@ never_joined_any_promise image image' g slot bodies hit j w fail s n out body m 
 -- WRITE, THEN FAIL, THEN SALVAGE: the records written are these bodies; of them remain those that no lost block touches
 unfoldable pub WriteFailSalvagePromise : Type 0
 WriteFailSalvagePromise = (image image' : List ℕ) (g : Geometry) (slot : ℕ) (bodies lengths : List ℕ) (hit : ℕ → Bool)
-    → judged image ≡ Volume g → write_refusal g image slot bodies lengths ≡ Passed
+    → judged image ≡ Ok g → write_refusal g image slot bodies lengths ≡ Ok tt
     → Failed g hit (image_after image slot bodies lengths) image'
     → OfBlocks g hit (image_after image slot bodies lengths) (label_at g (image_after image slot bodies lengths) slot)
     → (rs : List FileRecord) × (map body_of rs ≡ parted bodies lengths) × Salvaged g hit (image_after image slot bodies lengths) image' slot rs
@@ -152,7 +150,7 @@ write_fail_salvage_promise image image' g slot bodies lengths hit j w fail k =
 
 -- and nothing else is heard as a record than the bodies written
 pub write_never_joined : (image image' : List ℕ) (g : Geometry) (slot : ℕ) (bodies lengths : List ℕ) (hit : ℕ → Bool)
-    → judged image ≡ Volume g → write_refusal g image slot bodies lengths ≡ Passed
+    → judged image ≡ Ok g → write_refusal g image slot bodies lengths ≡ Ok tt
     → Failed g hit (image_after image slot bodies lengths) image'
     → Spares g hit (image_after image slot bodies lengths) (label_at g (image_after image slot bodies lengths) slot)
     → (n : ℕ) (out body : List ℕ) → Memᴰ (told body) (following n salvage image' slot out start) → Memᴰ body (parted bodies lengths)

@@ -2,7 +2,7 @@
 -- question is answered alike.
 -- Assumes nothing.
 use Prim.Native.Nat.{ℕ, zero, suc, ◌+◌, ◌≤◌}
-use Rattle.std.specs.Prelude.{◌≡◌, false, List, length}
+use Rattle.std.specs.Prelude.{◌≡◌, false, List, length, Result, Ok, Err}
 use Rattle.std.proofs.Math.Path.{refl}
 use Rattle.std.proofs.Common.{sym, subst, ◌∙◌}
 use native.Mathlib.Omega.{arith}
@@ -19,8 +19,6 @@ use Rattle.standard.specs.Listing.{volume_line, known_line, label_line, lines_fr
 use Rattle.standard.specs.declared.Geometry.{Geometry}
 use Rattle.standard.specs.declared.Place.{Place}
 use Rattle.standard.specs.declared.Refusal.{Refusal}
-use Rattle.standard.specs.declared.Judged.{Judged}
-use Rattle.standard.specs.declared.Judged.TheVariants.{Refused, Volume}
 use Rattle.promises.specs.Ground.Basics.{or_l}
 use Rattle.promises.specs.Ground.Lists.{every_map}
 use Rattle.promises.specs.Images.AddressLaws.{Legal, ordinal_ge}
@@ -42,12 +40,12 @@ pub record AlikeOn (loose : Loose) (g : Geometry) (image image' : List ℕ) : Ty
   pub front : (sector : ℕ) → 1 ≤ sector → sector ≤ 7 → FrontAlike loose image image' sector
   pub sectors : (n : ℕ) → 7 ≤ n → SameOrLoose loose g image image' n
 
-pub known_sectors : (image : List ℕ) (g : Geometry) → judged image ≡ Volume g → SectorsKnown image
+pub known_sectors : (image : List ℕ) (g : Geometry) → judged image ≡ Ok g → SectorsKnown image
 known_sectors image g j =
     let a = accepted image g j in
     order_all _ (a.long, (a.readable, (a.vol1, (a.open_access, (rw a.numbers a.size, tt)))))
 
-pub alike_on : (loose : Loose) → NoneJudged loose → (image image' : List ℕ) (g : Geometry) → judged image ≡ Volume g → EqualBut loose image image'
+pub alike_on : (loose : Loose) → NoneJudged loose → (image image' : List ℕ) (g : Geometry) → judged image ≡ Ok g → EqualBut loose image image'
     → AlikeOn loose g image image'
 alike_on loose u image image' g j e =
     let all = all_alike loose u image image' e (known_sectors image g j) in
@@ -57,11 +55,11 @@ alike_on loose u image image' g j e =
       sectors = subst (λ (x : Geometry). (n : ℕ) → 7 ≤ n → SameOrLoose loose x image image' n) (accepted image g j).numbers all;
     }
 
-module _ (loose : Loose) (u : NoneJudged loose) (image image' : List ℕ) (g : Geometry) (j : judged image ≡ Volume g) (e : EqualBut loose image image') where
+module _ (loose : Loose) (u : NoneJudged loose) (image image' : List ℕ) (g : Geometry) (j : judged image ≡ Ok g) (e : EqualBut loose image image') where
   ns : Numbers g
   ns = numbers_of_lem image g j
 
-  pub also_accepted : judged image' ≡ Volume g
+  pub also_accepted : judged image' ≡ Ok g
   also_accepted = sym (judged_alike loose u image image' e) ∙ j
 
   abbrev alike : AlikeOn loose g image image'
@@ -123,54 +121,54 @@ module _ (loose : Loose) (u : NoneJudged loose) (image image' : List ℕ) (g : G
 
 -- ---- ANY TWO IMAGES: refused alike, or accepted and answered alike
 module _ (loose : Loose) (u : NoneJudged loose) (image image' : List ℕ) (e : EqualBut loose image image') where
-  pub by_judgement : {C : Type 0} → ((r : Refusal) → judged image ≡ Refused r → judged image' ≡ Refused r → C)
-      → ((g : Geometry) → judged image ≡ Volume g → judged image' ≡ Volume g → C) → C
+  pub by_judgement : {C : Type 0} → ((r : Refusal) → judged image ≡ Err r → judged image' ≡ Err r → C)
+      → ((g : Geometry) → judged image ≡ Ok g → judged image' ≡ Ok g → C) → C
   by_judgement {C = C} refused on = go (judged image) refl
     where
-      go : (v : Judged) → judged image ≡ v → C
-      go (Refused r) j = refused r j (sym (judged_alike loose u image image' e) ∙ j)
-      go (Volume g) j = on g j (also_accepted loose u image image' g j e)
+      go : (v : Result Geometry Refusal) → judged image ≡ v → C
+      go (Err r) j = refused r j (sym (judged_alike loose u image image' e) ∙ j)
+      go (Ok g) j = on g j (also_accepted loose u image image' g j e)
 
   pub found_alike : (name : List ℕ) → found image name ≡ found image' name
   unfolding found
   found_alike name =
       by_judgement
-      (λ r (j : judged image ≡ Refused r) (j' : judged image' ≡ Refused r). rw (j, j'))
+      (λ r (j : judged image ≡ Err r) (j' : judged image' ≡ Err r). rw (j, j'))
       (λ g j j'. views_found g image image' (views loose u image image' g j e) j j' name)
 
   pub found_at_alike : (slot : ℕ) → found_at image slot ≡ found_at image' slot
   unfolding found_at
   found_at_alike slot =
       by_judgement
-      (λ r (j : judged image ≡ Refused r) (j' : judged image' ≡ Refused r). rw (j, j'))
+      (λ r (j : judged image ≡ Err r) (j' : judged image' ≡ Err r). rw (j, j'))
       (λ g j j'. views_found_at g image image' (views loose u image image' g j e) j j' slot)
 
   pub label_named_alike : (name : List ℕ) → label_named image name ≡ label_named image' name
   unfolding label_named
   label_named_alike name =
       by_judgement
-      (λ r (j : judged image ≡ Refused r) (j' : judged image' ≡ Refused r). rw (j, j'))
+      (λ r (j : judged image ≡ Err r) (j' : judged image' ≡ Err r). rw (j, j'))
       (λ g j j'. labels_named g image image' (views loose u image image' g j e) (label_same loose u image image' g j e) j j' name)
 
   pub label_in_alike : (slot : ℕ) → label_in_slot image slot ≡ label_in_slot image' slot
   unfolding label_in_slot
   label_in_alike slot =
       by_judgement
-      (λ r (j : judged image ≡ Refused r) (j' : judged image' ≡ Refused r). rw (j, j'))
+      (λ r (j : judged image ≡ Err r) (j' : judged image' ≡ Err r). rw (j, j'))
       (λ g j j'. labels_in g image image' (views loose u image image' g j e) (label_same loose u image image' g j e) j j' slot)
 
   pub free_alike : free_count image ≡ free_count image'
   unfolding free_count
   free_alike =
       by_judgement
-      (λ r (j : judged image ≡ Refused r) (j' : judged image' ≡ Refused r). rw (j, j'))
+      (λ r (j : judged image ≡ Err r) (j' : judged image' ≡ Err r). rw (j, j'))
       (λ g j j'. views_free g image image' (views loose u image image' g j e) j j')
 
   pub counted_alike : (slot : ℕ) → counted image slot ≡ counted image' slot
   unfolding counted
   counted_alike slot =
       by_judgement
-      (λ r (j : judged image ≡ Refused r) (j' : judged image' ≡ Refused r). rw (j, j'))
+      (λ r (j : judged image ≡ Err r) (j' : judged image' ≡ Err r). rw (j, j'))
       (λ g j j'. counted_same g image image' slot (numbers_of_lem image g j).size_low (file_alike loose u image image' g j e slot) j j')
 
   -- both modes, every place, every size of the output: the answer, and the body that stands in the output
@@ -178,13 +176,13 @@ module _ (loose : Loose) (u : NoneJudged loose) (image image' : List ℕ) (e : E
   unfolding reply
   reply_alike m slot pl room =
       by_judgement
-      (λ r (j : judged image ≡ Refused r) (j' : judged image' ≡ Refused r). rw (j, j'))
+      (λ r (j : judged image ≡ Err r) (j' : judged image' ≡ Err r). rw (j, j'))
       (λ g j j'. reply_same g image image' slot (numbers_of_lem image g j).size_low (file_alike loose u image image' g j e slot) j j' m pl room)
 
   pub listing_alike : listing image ≡ listing image'
   unfolding listing
   listing_alike =
       by_judgement
-      (λ r (j : judged image ≡ Refused r) (j' : judged image' ≡ Refused r). rw (e.same_length, j, j'))
-      (λ g (j : judged image ≡ Volume g) (j' : judged image' ≡ Volume g).
+      (λ r (j : judged image ≡ Err r) (j' : judged image' ≡ Err r). rw (e.same_length, j, j'))
+      (λ g (j : judged image ≡ Ok g) (j' : judged image' ≡ Ok g).
       rw (e.same_length, j, j', volume_line_alike loose u image image' g j e, lines_alike loose u image image' g j e (slot_count g) 1 (omega arith) (omega arith)))

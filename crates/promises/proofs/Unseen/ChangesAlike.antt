@@ -2,7 +2,7 @@
 -- and leave two such images.
 -- Assumes nothing.
 use Prim.Native.Nat.{ℕ, zero, suc, ◌+◌, ◌≤◌}
-use Rattle.std.specs.Prelude.{◌≡◌, true, List, [], ◌∷◌}
+use Rattle.std.specs.Prelude.{◌≡◌, true, List, [], ◌∷◌, Result, Ok, Err, ⊤}
 use Rattle.std.proofs.Math.Path.{refl, sym}
 use Rattle.std.proofs.Common.{ap, subst, ◌∙◌}
 use Rattle.std.proofs.Math.Bool.{false}
@@ -18,12 +18,6 @@ use Rattle.standard.specs.Writing.{needed, packing, write_refusal, store_blocks,
 use Rattle.standard.specs.Creating.{name_in, deleted_from, lowest_deleted, free_run, run_from, lowest_run, create_refusal, created_label, image_created, Creation, creation, created, image_after_create, delete_refusal, image_without, Deletion, deletion, deleted, image_after_delete}
 use Rattle.standard.specs.declared.Geometry.{Geometry}
 use Rattle.standard.specs.declared.Refusal.{Refusal}
-use Rattle.standard.specs.declared.Checked.{Checked}
-use Rattle.standard.specs.declared.Checked.TheVariants.{Passed, Stopped}
-use Rattle.standard.specs.declared.Judged.TheVariants.{Refused, Volume}
-use Rattle.standard.specs.declared.Written.TheVariants.{Unwritten, Blocks}
-use Rattle.standard.specs.declared.Created.TheVariants.{Uncreated}
-use Rattle.standard.specs.declared.Counted.TheVariants.{Uncounted, Count}
 use Rattle.promises.specs.Ground.Basics.{by_test}
 use Rattle.promises.proofs.Images.Alike.{Loose, NoneJudged, or_failed, EqualBut, unfailed_same}
 use Rattle.promises.specs.Images.SectorLaws.{same_failed}
@@ -42,7 +36,7 @@ use Rattle.promises.proofs.Making.Deletions.{deletable, deletion_is, delete_acce
 use Rattle.promises.proofs.Unseen.AnswersAlike.{AlikeOn, alike_on, slot_unfailed, slot_same, label_same, views, file_alike, by_judgement}
 use Rattle.promises.proofs.Unseen.LeftAlike.{equal_from, blocks_alike, set_alike, slot_stored_alike}
 
-module _ (loose : Loose) (u : NoneJudged loose) (image image' : List ℕ) (g : Geometry) (j : judged image ≡ Volume g) (e : EqualBut loose image image') where
+module _ (loose : Loose) (u : NoneJudged loose) (image image' : List ℕ) (g : Geometry) (j : judged image ≡ Ok g) (e : EqualBut loose image image') where
   ns : Numbers g
   ns = numbers_of_lem image g j
 
@@ -54,7 +48,7 @@ module _ (loose : Loose) (u : NoneJudged loose) (image image' : List ℕ) (g : G
     write_refusal_alike : write_refusal g image slot bodies lengths ≡ write_refusal g image' slot bodies lengths
     write_refusal_alike = write_same g image image' slot ns.size_low (file_alike loose u image image' g j e slot) bodies lengths
 
-    module _ (w : write_refusal g image slot bodies lengths ≡ Passed) where
+    module _ (w : write_refusal g image slot bodies lengths ≡ Ok tt) where
       abbrev h : List ℕ
       h = label_at g image slot
 
@@ -116,7 +110,7 @@ module _ (loose : Loose) (u : NoneJudged loose) (image image' : List ℕ) (g : G
     create_refusal_alike =
         rw (found_same g image image' (views loose u image image' g j e) (name_in w) (slot_count g) 1 (omega arith) (omega arith), lowest_deleted_alike, lowest_run_alike n)
 
-    created_equal : create_refusal g image w n ≡ Passed → EqualBut loose (image_created g image w n) (image_created g image' w n)
+    created_equal : create_refusal g image w n ≡ Ok tt → EqualBut loose (image_created g image w n) (image_created g image' w n)
     unfolding image_created
     created_equal c =
         let s = (creatable image g w n j c).slot in
@@ -136,7 +130,7 @@ module _ (loose : Loose) (u : NoneJudged loose) (image image' : List ℕ) (g : G
         (λ (l : has_label g image slot ≡ true). rw (same.has, same.label l))
         (λ (l : has_label g image slot ≡ false). rw (l, sym same.has ∙ l))
 
-    module _ (d : delete_refusal g image slot ≡ Passed) where
+    module _ (d : delete_refusal g image slot ≡ Ok tt) where
       own_label : label_at g image slot ≡ label_at g image' slot
       own_label = (file_alike loose u image image' g j e slot).label (deletable g image slot d).labelled
 
@@ -149,32 +143,32 @@ module _ (loose : Loose) (u : NoneJudged loose) (image image' : List ℕ) (g : G
 
 -- ---- ANY TWO IMAGES
 -- what a call leaves that is refused, by the volume or by its own list: the image
-outcome_refused : (image : List ℕ) (r : Refusal) (slot : ℕ) (bodies lengths : List ℕ) → judged image ≡ Refused r
-    → outcome image slot bodies lengths ≡ record { answer = Unwritten r; image = image }
+outcome_refused : (image : List ℕ) (r : Refusal) (slot : ℕ) (bodies lengths : List ℕ) → judged image ≡ Err r
+    → outcome image slot bodies lengths ≡ record { answer = Err r; image = image }
 unfolding outcome
 outcome_refused image r slot bodies lengths j = rw j
 
-outcome_stopped : (image : List ℕ) (g : Geometry) (r : Refusal) (slot : ℕ) (bodies lengths : List ℕ) → judged image ≡ Volume g
-    → write_refusal g image slot bodies lengths ≡ Stopped r → outcome image slot bodies lengths ≡ record { answer = Unwritten r; image = image }
+outcome_stopped : (image : List ℕ) (g : Geometry) (r : Refusal) (slot : ℕ) (bodies lengths : List ℕ) → judged image ≡ Ok g
+    → write_refusal g image slot bodies lengths ≡ Err r → outcome image slot bodies lengths ≡ record { answer = Err r; image = image }
 unfolding outcome
 outcome_stopped image g r slot bodies lengths j w = rw (j, w)
 
-creation_refused : (image : List ℕ) (r : Refusal) (w : List ℕ) (n : ℕ) → judged image ≡ Refused r
-    → creation image w n ≡ record { answer = Uncreated r; image = image }
+creation_refused : (image : List ℕ) (r : Refusal) (w : List ℕ) (n : ℕ) → judged image ≡ Err r
+    → creation image w n ≡ record { answer = Err r; image = image }
 unfolding creation
 creation_refused image r w n j = rw j
 
-creation_stopped : (image : List ℕ) (g : Geometry) (r : Refusal) (w : List ℕ) (n : ℕ) → judged image ≡ Volume g → create_refusal g image w n ≡ Stopped r
-    → creation image w n ≡ record { answer = Uncreated r; image = image }
+creation_stopped : (image : List ℕ) (g : Geometry) (r : Refusal) (w : List ℕ) (n : ℕ) → judged image ≡ Ok g → create_refusal g image w n ≡ Err r
+    → creation image w n ≡ record { answer = Err r; image = image }
 unfolding creation
 creation_stopped image g r w n j c = rw (j, c)
 
-deletion_refused : (image : List ℕ) (r : Refusal) (slot : ℕ) → judged image ≡ Refused r → deletion image slot ≡ record { answer = Uncounted r; image = image }
+deletion_refused : (image : List ℕ) (r : Refusal) (slot : ℕ) → judged image ≡ Err r → deletion image slot ≡ record { answer = Err r; image = image }
 unfolding deletion
 deletion_refused image r slot j = rw j
 
-deletion_stopped : (image : List ℕ) (g : Geometry) (r : Refusal) (slot : ℕ) → judged image ≡ Volume g → delete_refusal g image slot ≡ Stopped r
-    → deletion image slot ≡ record { answer = Uncounted r; image = image }
+deletion_stopped : (image : List ℕ) (g : Geometry) (r : Refusal) (slot : ℕ) → judged image ≡ Ok g → delete_refusal g image slot ≡ Err r
+    → deletion image slot ≡ record { answer = Err r; image = image }
 unfolding deletion
 deletion_stopped image g r slot j d = rw (j, d)
 
@@ -198,14 +192,14 @@ module _ (loose : Loose) (u : NoneJudged loose) (image image' : List ℕ) (e : E
       (λ r j j'. carried (WrittenAlike loose) _ _ (outcome_refused image r slot bodies lengths j) (outcome_refused image' r slot bodies lengths j') (refl, e))
       (λ g j j'. go g j j' (write_refusal g image slot bodies lengths) refl)
     where
-      go : (g : Geometry) → judged image ≡ Volume g → judged image' ≡ Volume g → (c : Checked) → write_refusal g image slot bodies lengths ≡ c
+      go : (g : Geometry) → judged image ≡ Ok g → judged image' ≡ Ok g → (c : Result ⊤ Refusal) → write_refusal g image slot bodies lengths ≡ c
           → WrittenAlike loose (outcome image slot bodies lengths) (outcome image' slot bodies lengths)
-      go g j j' Passed w =
+      go g j j' (Ok _) w =
           let w' = sym (write_refusal_alike loose u image image' g j e slot bodies lengths) ∙ w in
           let h = label_same loose u image image' g j e slot (has_slot g image slot (passing g image slot bodies lengths w).labelled).0 (slot_inside image g slot bodies lengths j w) in
           carried (WrittenAlike loose) _ _ (outcome_is image g slot bodies lengths j w) (outcome_is image' g slot bodies lengths j' w')
-          (ap (λ (x : List ℕ). Blocks (needed x bodies lengths)) h, with_equal loose u image image' g j e slot bodies lengths w)
-      go g j j' (Stopped r) w =
+          (ap (λ (x : List ℕ). Ok (needed x bodies lengths)) h, with_equal loose u image image' g j e slot bodies lengths w)
+      go g j j' (Err r) w =
           let w' = sym (write_refusal_alike loose u image image' g j e slot bodies lengths) ∙ w in
           carried (WrittenAlike loose) _ _ (outcome_stopped image g r slot bodies lengths j w) (outcome_stopped image' g r slot bodies lengths j' w') (refl, e)
 
@@ -215,13 +209,13 @@ module _ (loose : Loose) (u : NoneJudged loose) (image image' : List ℕ) (e : E
       (λ r j j'. carried (CreatedAlike loose) _ _ (creation_refused image r w n j) (creation_refused image' r w n j') (refl, e))
       (λ g j j'. go g j j' (create_refusal g image w n) refl)
     where
-      go : (g : Geometry) → judged image ≡ Volume g → judged image' ≡ Volume g → (c : Checked) → create_refusal g image w n ≡ c
+      go : (g : Geometry) → judged image ≡ Ok g → judged image' ≡ Ok g → (c : Result ⊤ Refusal) → create_refusal g image w n ≡ c
           → CreatedAlike loose (creation image w n) (creation image' w n)
-      go g j j' Passed c =
+      go g j j' (Ok _) c =
           let c' = sym (create_refusal_alike loose u image image' g j e w n) ∙ c in
           carried (CreatedAlike loose) _ _ (creation_is image g w n j c) (creation_is image' g w n j' c')
           (rw (lowest_deleted_alike loose u image image' g j e, lowest_run_alike loose u image image' g j e n), created_equal loose u image image' g j e w n c)
-      go g j j' (Stopped r) c =
+      go g j j' (Err r) c =
           let c' = sym (create_refusal_alike loose u image image' g j e w n) ∙ c in
           carried (CreatedAlike loose) _ _ (creation_stopped image g r w n j c) (creation_stopped image' g r w n j' c') (refl, e)
 
@@ -231,13 +225,13 @@ module _ (loose : Loose) (u : NoneJudged loose) (image image' : List ℕ) (e : E
       (λ r j j'. carried (DeletedAlike loose) _ _ (deletion_refused image r slot j) (deletion_refused image' r slot j') (refl, e))
       (λ g j j'. go g j j' (delete_refusal g image slot) refl)
     where
-      go : (g : Geometry) → judged image ≡ Volume g → judged image' ≡ Volume g → (c : Checked) → delete_refusal g image slot ≡ c
+      go : (g : Geometry) → judged image ≡ Ok g → judged image' ≡ Ok g → (c : Result ⊤ Refusal) → delete_refusal g image slot ≡ c
           → DeletedAlike loose (deletion image slot) (deletion image' slot)
-      go g j j' Passed d =
+      go g j j' (Ok _) d =
           let d' = sym (delete_refusal_alike loose u image image' g j e slot) ∙ d in
           carried (DeletedAlike loose) _ _ (deletion_is image g slot j d) (deletion_is image' g slot j' d')
-          (ap (λ (x : List ℕ). Count (extent_size g x)) (own_label loose u image image' g j e slot d), without_equal loose u image image' g j e slot d)
-      go g j j' (Stopped r) d =
+          (ap (λ (x : List ℕ). Ok (extent_size g x)) (own_label loose u image image' g j e slot d), without_equal loose u image image' g j e slot d)
+      go g j j' (Err r) d =
           let d' = sym (delete_refusal_alike loose u image image' g j e slot) ∙ d in
           carried (DeletedAlike loose) _ _ (deletion_stopped image g r slot j d) (deletion_stopped image' g r slot j' d') (refl, e)
 

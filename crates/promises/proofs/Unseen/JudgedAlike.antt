@@ -2,7 +2,7 @@
 -- place, or the same numbers.
 -- Assumes nothing.
 use Prim.Native.Nat.{ℕ, zero, suc, ◌+◌, ◌-◌, ◌<◌, ◌≤◌}
-use Rattle.std.specs.Prelude.{◌≡◌, Bool, true, false, not, ◌&&◌, List, [], ◌∷◌, length}
+use Rattle.std.specs.Prelude.{◌≡◌, Bool, true, false, not, ◌&&◌, List, [], ◌∷◌, length, Result, Ok, Err, ⊤}
 use Rattle.std.proofs.Math.Path.{refl, sym}
 use Rattle.std.proofs.Common.{ap, subst, ◌∙◌, inl, inr, arith, eq-or-lt_of_le, eqb-true}
 use Rattle.std.proofs.Math.ListN.{get_or-eq_default}
@@ -17,8 +17,6 @@ use Rattle.standard.specs.Slots.{is_label, is_deleted, is_unreadable, slot_refus
 use Rattle.standard.specs.Judgement.{volume_of, legal_kind, refusal1, refusal2, refusal6, refusal7, refusal8to10, refusal11, refusal12, kinds_from, overlap, same_name, shares, namesake, volume_refusal, verdict, judged}
 use Rattle.standard.specs.declared.Geometry.{Geometry}
 use Rattle.standard.specs.declared.Refusal.{Refusal}
-use Rattle.standard.specs.declared.Checked.{Checked}
-use Rattle.standard.specs.declared.Checked.TheVariants.{Passed, Stopped}
 use Rattle.promises.specs.Ground.Basics.{either, lt_or_le, by_test, and_l}
 use Rattle.promises.specs.Images.Tiling.{sectors_apart, last_sector}
 use Rattle.promises.specs.Images.SectorLaws.{sector_from_bytes, kind_legal, index_kind_lem}
@@ -111,7 +109,7 @@ module _ (g : Geometry) (image image' : List ℕ) (numbers : Numbers g) (kinds :
     namesake_alike = labels_alike same_name
 
 -- the rest of the volume's list
-abbrev later_list : Geometry → List ℕ → List Checked
+abbrev later_list : Geometry → List ℕ → List (Result ⊤ Refusal)
 later_list g image = refusal6 g image ∷ refusal7 g.L (ermap_of image) ∷ refusal8to10 g image ∷ refusal11 g image ∷ refusal12 g image ∷ []
 
 later_alike : (g : Geometry) (image image' : List ℕ) → Numbers g → ((n : ℕ) → n < 7 → kind_at g image n ≡ kind_at g image' n)
@@ -129,19 +127,19 @@ later_alike g image image' numbers kinds alike e =
     )
 
 -- a volume whose sector 05 or 07 cannot be read is not looked at further
-unreadable_stops : (c c' d d' : Checked) (r : Refusal) (xs ys : List Checked) (g g' : Geometry) → c ≡ c' → d ≡ Stopped r → d' ≡ Stopped r
+unreadable_stops : (c c' d d' : Result ⊤ Refusal) (r : Refusal) (xs ys : List (Result ⊤ Refusal)) (g g' : Geometry) → c ≡ c' → d ≡ Err r → d' ≡ Err r
     → verdict (in_order (c ∷ d ∷ xs)) g ≡ verdict (in_order (c' ∷ d' ∷ ys)) g'
 unfolding in_order
-unreadable_stops c Passed d d' r xs ys g g' q e e' = rw (q, e, e')
-unreadable_stops c (Stopped x) d d' r xs ys g g' q e e' = rw q
+unreadable_stops c (Ok _) d d' r xs ys g g' q e e' = rw (q, e, e')
+unreadable_stops c (Err x) d d' r xs ys g g' q e e' = rw q
 
-stopped_alike : (a a' b b' : Checked) (r : Refusal) (g g' : Geometry) → a ≡ Stopped r → a' ≡ Stopped r → verdict (or_else a b) g ≡ verdict (or_else a' b') g'
+stopped_alike : (a a' b b' : Result ⊤ Refusal) (r : Refusal) (g g' : Geometry) → a ≡ Err r → a' ≡ Err r → verdict (or_else a b) g ≡ verdict (or_else a' b') g'
 unfolding or_else
 stopped_alike a a' b b' r g g' e e' = rw (e, e')
 
 in_two : (image : List ℕ) → judged image ≡ verdict (or_else (in_order (layout_list image)) (in_order (later_list (volume_of image) image))) (volume_of image)
 unfolding judged volume_refusal
-in_two image = ap (λ (c : Checked). verdict c (volume_of image)) (order_append (layout_list image) (later_list (volume_of image) image))
+in_two image = ap (λ (c : Result ⊤ Refusal). verdict c (volume_of image)) (order_append (layout_list image) (later_list (volume_of image) image))
 
 -- where the sectors are known the numbers are in range, and the sectors fill the image
 module _ (image : List ℕ) (known : SectorsKnown image) where
@@ -180,7 +178,7 @@ module _ (loose : Loose) (u : NoneJudged loose) (image image' : List ℕ) (e : E
   readable_alike : refusal2 image ≡ refusal2 image'
   readable_alike = rw (kind_of 5 front5, kind_of 7 front7)
 
-  module _ (r : refusal2 image ≡ Passed) where
+  module _ (r : refusal2 image ≡ Ok tt) where
     pub kind5 : index_kind image 5 ≡ 0
     kind5 = eqb-true (index_kind image 5) 0 (not-false _ (not_given (not (eqb (index_kind image 5) 0)) _ (order_each _ r).0))
 
@@ -217,7 +215,7 @@ module _ (loose : Loose) (u : NoneJudged loose) (image image' : List ℕ) (e : E
 
   -- ---- THE SECTORS, where they are known
   module _ (known : SectorsKnown image) where
-    readable : refusal2 image ≡ Passed
+    readable : refusal2 image ≡ Ok tt
     readable = (order_each _ known).1.0
 
     -- behind the last sector there is nothing
@@ -246,23 +244,23 @@ module _ (loose : Loose) (u : NoneJudged loose) (image image' : List ℕ) (e : E
         ∙ ap (λ (g : Geometry). in_order (later_list g image')) (numbers_alike readable)
 
   -- THE JUDGEMENT
-  readable_judged : refusal2 image ≡ Passed → judged image ≡ judged image'
+  readable_judged : refusal2 image ≡ Ok tt → judged image ≡ judged image'
   readable_judged r = in_two image ∙ go (in_order (layout_list image)) refl ∙ sym (in_two image')
     where
-      go : (c : Checked) → in_order (layout_list image) ≡ c
+      go : (c : Result ⊤ Refusal) → in_order (layout_list image) ≡ c
           → verdict (or_else (in_order (layout_list image)) (in_order (later_list (volume_of image) image))) (volume_of image)
           ≡ verdict (or_else (in_order (layout_list image')) (in_order (later_list (volume_of image') image'))) (volume_of image')
-      go Passed known = rw (layout_alike r, later known, numbers_alike r)
-      go (Stopped x) q =
+      go (Ok _) known = rw (layout_alike r, later known, numbers_alike r)
+      go (Err x) q =
           stopped_alike (in_order (layout_list image)) (in_order (layout_list image')) _ _ x (volume_of image) (volume_of image') q (sym (layout_alike r) ∙ q)
 
   pub judged_alike : judged image ≡ judged image'
   unfolding judged volume_refusal
   judged_alike = go (refusal2 image) refl
     where
-      go : (c : Checked) → refusal2 image ≡ c → judged image ≡ judged image'
-      go Passed r = readable_judged r
-      go (Stopped x) r =
+      go : (c : Result ⊤ Refusal) → refusal2 image ≡ c → judged image ≡ judged image'
+      go (Ok _) r = readable_judged r
+      go (Err x) r =
           unreadable_stops (refusal1 image) (refusal1 image') (refusal2 image) (refusal2 image') x _ _ (volume_of image) (volume_of image')
           (rw e.same_length) r (sym readable_alike ∙ r)
 
@@ -273,7 +271,7 @@ equal_swap loose u image image' e =
       same_length = sym e.same_length;
       front = λ sector l m. swap sector (e.front sector l m);
       sectors = λ known n behind l.
-          let r : refusal2 image ≡ Passed = readable_alike loose u image image' e ∙ (order_each _ known).1.0 in
+          let r : refusal2 image ≡ Ok tt = readable_alike loose u image image' e ∙ (order_each _ known).1.0 in
           let q = numbers_alike loose u image image' e r in
           subst (λ (g : Geometry). SameOrLoose loose g image' image n) q
           (swap_sector loose (volume_of image) image image' n

@@ -2,7 +2,7 @@
 -- body that is not trusted is written over whole or stays where it is; sectors 01 to 07 stay.
 -- Assumes nothing.
 use Prim.Native.Nat.{ℕ, suc, ◌+◌, ◌-◌, ◌*◌, ◌<◌, ◌≤◌}
-use Rattle.std.specs.Prelude.{◌≡◌, true, get_or, drop, ltb}
+use Rattle.std.specs.Prelude.{◌≡◌, true, get_or, drop, ltb, Ok}
 use Rattle.std.proofs.Math.Path.{sym}
 use Rattle.std.proofs.Common.{ap, subst, ◌∙◌, eqb-true, lt-ltb}
 use Rattle.std.proofs.Math.Logic.{inl, inr}
@@ -17,7 +17,6 @@ use Rattle.standard.specs.Writing.{splice, store_record, store_block, store_bloc
 use Rattle.standard.specs.Creating.{store_slot}
 use Rattle.standard.specs.declared.Geometry.{Geometry}
 use Rattle.standard.specs.declared.Address.{Address}
-use Rattle.standard.specs.declared.Judged.TheVariants.{Volume}
 use Rattle.promises.specs.Ground.Basics.{either, lt_or_le, eq_or_not, cond_elim}
 use Rattle.promises.specs.Ground.Lists.{Every, every_left, every_right}
 use Rattle.promises.specs.Ground.Digits.{padded_length, unused_length}
@@ -74,7 +73,7 @@ module _ (g : Geometry) (sector : ℕ) (l : sector - 1 < index_sectors g) where
 equal_known : (loose : Loose) (image image' : List ℕ) → AlikeOn loose (volume_of image) image image' → EqualBut loose image image'
 equal_known loose image image' a = record { same_length = a.same_length; front = a.front; sectors = λ _ n behind _. a.sectors n behind }
 
-pub equal_from : (loose : Loose) (image image' : List ℕ) (g : Geometry) → judged image ≡ Volume g → AlikeOn loose g image image' → EqualBut loose image image'
+pub equal_from : (loose : Loose) (image image' : List ℕ) (g : Geometry) → judged image ≡ Ok g → AlikeOn loose g image image' → EqualBut loose image image'
 equal_from loose image image' g j a =
     equal_known loose image image' (subst (λ (x : Geometry). AlikeOn loose x image image') (sym (accepted image g j).numbers) a)
 

@@ -1,14 +1,12 @@
 -- The image after an accepted write is accepted again, with the same numbers.
 -- Assumes nothing.
-use Rattle.std.specs.Prelude.{ℕ, ◌+◌, ◌≤◌, ◌≡◌, List}
+use Rattle.std.specs.Prelude.{ℕ, ◌+◌, ◌≤◌, ◌≡◌, List, Ok}
 use Rattle.std.proofs.Common.{sym, subst, ◌∙◌, arith}
 use Rattle.standard.specs.Layout.{slot_count, slot_ordinal, label_at, valid_mark}
 use Rattle.standard.specs.Slots.{is_label, slot_refusal}
 use Rattle.standard.specs.Judgement.{judged}
 use Rattle.standard.specs.Writing.{write_refusal}
 use Rattle.standard.specs.declared.Geometry.{Geometry}
-use Rattle.standard.specs.declared.Checked.TheVariants.{Passed}
-use Rattle.standard.specs.declared.Judged.TheVariants.{Volume}
 use Rattle.promises.specs.Ground.Basics.{either, eq_or_not}
 use Rattle.promises.specs.Images.Sectors.{sector_at}
 use Rattle.promises.specs.Volumes.Judging.{Accepted, accepted, label_passes}
@@ -20,8 +18,8 @@ use Rattle.promises.specs.Writing.AlikeLabels.{f1, f6, f29, f35, known}
 use Rattle.promises.proofs.Writing.WrittenImage.{result, result_whole, result_index, result_kind, result_label, result_legal}
 use Rattle.promises.proofs.Writing.WrittenLabel.{new_right}
 
-module _ (image : List ℕ) (g : Geometry) (slot : ℕ) (bodies lengths : List ℕ) (j : judged image ≡ Volume g)
-    (w : write_refusal g image slot bodies lengths ≡ Passed) where
+module _ (image : List ℕ) (g : Geometry) (slot : ℕ) (bodies lengths : List ℕ) (j : judged image ≡ Ok g)
+    (w : write_refusal g image slot bodies lengths ≡ Ok tt) where
   abbrev t : List ℕ
   t = result image g slot bodies lengths j w
 
@@ -57,11 +55,11 @@ module _ (image : List ℕ) (g : Geometry) (slot : ℕ) (bodies lengths : List �
       (λ (q : s ≡ slot). subst (λ (x : ℕ). View g image t x) (sym q) this_view)
       (λ (ne : s ≡ slot → ⊥). same_view g image t (numbers_of_lem image g j) s l (other_sector s l ne))
 
-  refusals : (s : ℕ) → s ≤ slot_count g → slot_refusal g image s ≡ Passed → slot_refusal g t s ≡ Passed
+  refusals : (s : ℕ) → s ≤ slot_count g → slot_refusal g image s ≡ Ok tt → slot_refusal g t s ≡ Ok tt
   refusals s l p =
       either (eq_or_not s slot)
       (λ (q : s ≡ slot).
-      subst (λ (x : ℕ). slot_refusal g t x ≡ Passed) (sym q)
+      subst (λ (x : ℕ). slot_refusal g t x ≡ Ok tt) (sym q)
       (label_passes g t slot (sym this_is_label ∙ (has_slot g image slot (passing g image slot bodies lengths w).labelled).2) (new_right image g slot bodies lengths j w)))
       (λ (ne : s ≡ slot → ⊥). sym (same_slot_refusal g image t (numbers_of_lem image g j) s l (other_sector s l ne)) ∙ p)
 

@@ -1,6 +1,6 @@
 -- What an accepted write says: the rules it passed, the records it takes, the image it leaves.
 -- Assumes nothing.
-use Rattle.std.specs.Prelude.{ℕ, ◌≤◌, ◌*◌, ◌≡◌, true, not, false, List, length, take, ltb, eqb}
+use Rattle.std.specs.Prelude.{ℕ, ◌≤◌, ◌*◌, ◌≡◌, true, not, false, List, length, take, ltb, eqb, Ok}
 use Rattle.std.proofs.Common.{ap, ltb-false, eqb-true}
 use Rattle.std.proofs.lemmas.Bool.{not-false}
 use Rattle.standard.specs.Characters.{at, is_space}
@@ -11,9 +11,6 @@ use Rattle.standard.specs.Judgement.{judged}
 use Rattle.standard.specs.Files.{refusal17, blocks_held, good_records, records_to_block, is_defective, extent}
 use Rattle.standard.specs.Writing.{total, lengths_from, needed, packing, write_refusal, image_with, outcome, store_blocks, image_after, Outcome}
 use Rattle.standard.specs.declared.Geometry.{Geometry}
-use Rattle.standard.specs.declared.Checked.TheVariants.{Passed}
-use Rattle.standard.specs.declared.Judged.TheVariants.{Volume}
-use Rattle.standard.specs.declared.Written.TheVariants.{Blocks}
 use Rattle.standard.specs.declared.Address.{Address}
 use Rattle.promises.specs.Ground.Lists.{Every, every_take}
 use Rattle.promises.specs.Images.AddressLaws.{Legal}
@@ -28,12 +25,12 @@ pub record Passing (g : Geometry) (image : List ℕ) (slot : ℕ) (bodies length
   pub known : known_level (label_at g image slot) ≡ true
   pub plain42 : is_space (at (label_at g image slot) 42) ≡ true
   pub plain45 : is_space (at (label_at g image slot) 45) ≡ true
-  pub right : refusal17 g image (label_at g image slot) ≡ Passed
+  pub right : refusal17 g image (label_at g image slot) ≡ Ok tt
   pub sum : total lengths ≡ length bodies
-  pub fits : lengths_from (label_at g image slot) 0 lengths ≡ Passed
+  pub fits : lengths_from (label_at g image slot) 0 lengths ≡ Ok tt
   pub held : needed (label_at g image slot) bodies lengths ≤ blocks_held g image (label_at g image slot)
 
-pub passing : (g : Geometry) (image : List ℕ) (slot : ℕ) (bodies lengths : List ℕ) → write_refusal g image slot bodies lengths ≡ Passed
+pub passing : (g : Geometry) (image : List ℕ) (slot : ℕ) (bodies lengths : List ℕ) → write_refusal g image slot bodies lengths ≡ Ok tt
     → Passing g image slot bodies lengths
 unfolding write_refusal
 passing g image slot bodies lengths p =
@@ -51,10 +48,10 @@ passing g image slot bodies lengths p =
     }
 
 -- THE IMAGE AFTER AN ACCEPTED WRITE, and its answer
-pub outcome_is : (image : List ℕ) (g : Geometry) (slot : ℕ) (bodies lengths : List ℕ) → judged image ≡ Volume g → write_refusal g image slot bodies lengths ≡ Passed
+pub outcome_is : (image : List ℕ) (g : Geometry) (slot : ℕ) (bodies lengths : List ℕ) → judged image ≡ Ok g → write_refusal g image slot bodies lengths ≡ Ok tt
     → outcome image slot bodies lengths
     ≡ record {
-      answer = Blocks (needed (label_at g image slot) bodies lengths);
+      answer = Ok (needed (label_at g image slot) bodies lengths);
       image = image_with g image slot (packing (label_at g image slot) bodies lengths);
     }
 unfolding outcome
@@ -64,8 +61,8 @@ outcome_is image g slot bodies lengths j w = rw (j, w)
 abbrev pub taken_by : Geometry → List ℕ → List ℕ → ℕ → List Address
 taken_by g image h blocks = take (blocks * records_to_block g h) (good_records g image h)
 
-module _ (image : List ℕ) (g : Geometry) (slot : ℕ) (bodies lengths : List ℕ) (j : judged image ≡ Volume g)
-    (w : write_refusal g image slot bodies lengths ≡ Passed) where
+module _ (image : List ℕ) (g : Geometry) (slot : ℕ) (bodies lengths : List ℕ) (j : judged image ≡ Ok g)
+    (w : write_refusal g image slot bodies lengths ≡ Ok tt) where
   abbrev pub label : List ℕ
   label = label_at g image slot
 

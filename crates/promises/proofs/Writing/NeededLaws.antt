@@ -1,6 +1,6 @@
 -- HOW MANY BLOCKS A WRITE NEEDS, AND U: counted from the lengths alone, and how large the number of blocks can be.
 -- Assumes nothing.
-use Rattle.std.specs.Prelude.{ℕ, zero, suc, ◌+◌, ◌-◌, ◌<◌, ◌≤◌, ◌≡◌, refl, Bool, true, false, cond, not, ◌&&◌, List, [], ◌∷◌, ◌++◌, map, length, get_or, drop, leb, ltb, eqb}
+use Rattle.std.specs.Prelude.{ℕ, zero, suc, ◌+◌, ◌-◌, ◌<◌, ◌≤◌, ◌≡◌, refl, Bool, true, false, cond, not, ◌&&◌, List, [], ◌∷◌, ◌++◌, map, length, get_or, drop, leb, ltb, eqb, Ok}
 use Rattle.std.proofs.Common.{sym, ◌∙◌, map-id, length-drop, drop-cons, arith, add-one, le_refl, not-suc-le-zero, div-add-mod', leb-true, leb-false, ltb-false, le-leb, eqb-true}
 use Rattle.std.proofs.Math.Path.{ap, subst}
 use Rattle.std.proofs.lemmas.Bool.{lt-leb, not-false}
@@ -9,7 +9,6 @@ use Rattle.standard.specs.Labels.{format_of, block_length, record_length, is_blo
 use Rattle.standard.specs.Packing.{Packing, unused_in, fill, lay_f, record_v, lay_one, Laid, then_here, then_next, spread_if, spread, least, start_if, lay_s, pack_in, pack}
 use Rattle.standard.specs.Writing.{total, parted, wrong_in, wrong_length, lengths_from, packing, needed}
 use Rattle.standard.specs.declared.Geometry.{Geometry}
-use Rattle.standard.specs.declared.Checked.TheVariants.{Passed}
 use Rattle.promises.specs.Ground.Basics.{never, or_r}
 use Rattle.promises.specs.Volumes.Judging.{stop_first, stop_rest}
 use Rattle.promises.specs.Volumes.LabelRules.{Rules, Shape, shape, fixed_low, fixed_high, fixed_whole, variable_high, spanned_low, is_f, is_v, is_s}
@@ -182,7 +181,7 @@ one_fits g h r (is_s f t) n e =
     let q : wrong_in spanned (block_length h) (record_length h) n ≡ false = rw f at e in
     rw f (least_fits (block_length h) (spanned_low g h r t) n (or_r (ltb 0 (record_length h) && ltb (record_length h) n) _ q))
 
-pub each_fits : (g : Geometry) (h : List ℕ) → Rules g h → (i : ℕ) (lengths : List ℕ) → lengths_from h i lengths ≡ Passed → EachFits (format_of h) (block_length h) lengths
+pub each_fits : (g : Geometry) (h : List ℕ) → Rules g h → (i : ℕ) (lengths : List ℕ) → lengths_from h i lengths ≡ Ok tt → EachFits (format_of h) (block_length h) lengths
 unfolding lengths_from
 each_fits g h r i [] p = tt
 each_fits g h r i (n ∷ lengths) p = (
@@ -190,14 +189,14 @@ each_fits g h r i (n ∷ lengths) p = (
   each_fits g h r (i + 1) lengths (stop_rest (wrong_length h n) (refuse 26 i) (lengths_from h (i + 1) lengths) p),
 )
 
-lengths_r : (h : List ℕ) → format_of h ≡ fixed → (i : ℕ) (lengths : List ℕ) → lengths_from h i lengths ≡ Passed → Every (λ n. n ≡ record_length h) lengths
+lengths_r : (h : List ℕ) → format_of h ≡ fixed → (i : ℕ) (lengths : List ℕ) → lengths_from h i lengths ≡ Ok tt → Every (λ n. n ≡ record_length h) lengths
 unfolding lengths_from wrong_length
 lengths_r h f i [] p = tt
 lengths_r h f i (n ∷ lengths) p =
     let q : wrong_in fixed (block_length h) (record_length h) n ≡ false = rw f at (stop_first (wrong_length h n) _ (lengths_from h (i + 1) lengths) p) in
     (eqb-true n (record_length h) (not-false _ q), lengths_r h f (i + 1) lengths (stop_rest (wrong_length h n) (refuse 26 i) (lengths_from h (i + 1) lengths) p))
 
-pub tiled : (g : Geometry) (h lengths : List ℕ) → Rules g h → lengths_from h 0 lengths ≡ Passed → format_of h ≡ fixed
+pub tiled : (g : Geometry) (h lengths : List ℕ) → Rules g h → lengths_from h 0 lengths ≡ Ok tt → format_of h ≡ fixed
     → Tiled (record_length h) (block_length h) lengths
 tiled g h lengths r p e = go (shape h r.r40)
   where
@@ -350,7 +349,7 @@ bound_any variable bl B room blocks lengths h = omega (arith, bound_whole variab
 bound_any spanned bl B room blocks lengths h = bound_spanned bl B room blocks lengths h
 
 -- ---- THE THEOREMS, of a label right by the rules, and lengths that refusals 25 and 26 pass
-module _ (g : Geometry) (h bodies lengths : List ℕ) (r : Rules g h) (sum : total lengths ≡ length bodies) (fits : lengths_from h 0 lengths ≡ Passed) where
+module _ (g : Geometry) (h bodies lengths : List ℕ) (r : Rules g h) (sum : total lengths ≡ length bodies) (fits : lengths_from h 0 lengths ≡ Ok tt) where
   -- U AND THE BLOCKS NEEDED ARE COUNTED OVER THE LENGTHS, from no block and no room on; the bytes do not matter
   packing_level : level_of (packing h bodies lengths).U (needed h bodies lengths) ≡ level_from (format_of h) (is_blocked h) (block_length h) 0 0 lengths
   unfolding packing pack

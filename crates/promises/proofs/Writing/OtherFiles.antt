@@ -1,6 +1,6 @@
 -- After an accepted write every other file is the same: its label, and the sectors of its extent.
 -- Assumes nothing.
-use Rattle.std.specs.Prelude.{ℕ, ◌*◌, ◌≡◌, true, List}
+use Rattle.std.specs.Prelude.{ℕ, ◌*◌, ◌≡◌, true, List, Ok}
 use Rattle.std.proofs.Common.{ap, inl, arith}
 use Rattle.standard.specs.Layout.{slot_ordinal, label_at}
 use Rattle.standard.specs.Addresses.{rank, ordinal}
@@ -11,8 +11,6 @@ use Rattle.standard.specs.Files.{extent, good_records, records_to_block}
 use Rattle.standard.specs.Writing.{needed, write_refusal}
 use Rattle.standard.specs.declared.Geometry.{Geometry}
 use Rattle.standard.specs.declared.Address.{Address}
-use Rattle.standard.specs.declared.Checked.TheVariants.{Passed}
-use Rattle.standard.specs.declared.Judged.TheVariants.{Volume}
 use Rattle.promises.specs.Ground.Lists.{every_take, every_map}
 use Rattle.promises.specs.Images.AddressLaws.{ordinal_ge, ordinal_inj}
 use Rattle.promises.specs.Volumes.AcceptedLaws.{has_slot, label_in_range, bounds_extent, labels_apart}
@@ -26,8 +24,8 @@ use Rattle.promises.proofs.Writing.AcceptedWrite.{passing, taken_by, label_range
 use Rattle.promises.proofs.Writing.WrittenImage.{result, result_sector}
 use Rattle.promises.proofs.Writing.AcceptedAgain.{other_sector, views}
 
-module _ (image : List ℕ) (g : Geometry) (slot : ℕ) (bodies lengths : List ℕ) (j : judged image ≡ Volume g)
-    (w : write_refusal g image slot bodies lengths ≡ Passed) where
+module _ (image : List ℕ) (g : Geometry) (slot : ℕ) (bodies lengths : List ℕ) (j : judged image ≡ Ok g)
+    (w : write_refusal g image slot bodies lengths ≡ Ok tt) where
   abbrev t : List ℕ
   t = result image g slot bodies lengths j w
 

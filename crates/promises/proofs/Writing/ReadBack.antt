@@ -1,7 +1,7 @@
 -- What was written is read back from the image; and the file can be written again.
 -- Assumes nothing.
 use Prim.Native.Nat.{ℕ, ◌+◌, ◌<◌, suc, ◌*◌, ◌≤◌}
-use Rattle.std.specs.Prelude.{◌≡◌, ◌&&◌, ltb}
+use Rattle.std.specs.Prelude.{◌≡◌, ◌&&◌, ltb, Ok}
 use Rattle.std.proofs.Math.Path.{refl, sym, ap}
 use Rattle.std.proofs.Common.{◌∙◌, arith, le-div_iff_mul-le, ne_eqb}
 use Rattle.std.proofs.Math.Bool.{and-false, true, false}
@@ -20,8 +20,6 @@ use Rattle.standard.specs.Labels.{known_level, block_length, unused_count, start
 use Rattle.standard.specs.Pieces.{held}
 use Rattle.standard.specs.Packing.{file_of}
 use Rattle.standard.specs.declared.Geometry.{Geometry}
-use Rattle.standard.specs.declared.Checked.TheVariants.{Passed}
-use Rattle.standard.specs.declared.Judged.TheVariants.{Volume}
 use Rattle.standard.specs.declared.Address.{Address}
 use Rattle.promises.specs.Ground.Lists.{Every, every_map, every_both}
 use Rattle.promises.specs.Images.AddressLaws.{Legal}
@@ -47,8 +45,8 @@ unfolding lengths_from wrong_length
 lengths_same h k a i [] = refl
 lengths_same h k a i (n ∷ lengths) = rw (format_same h k a, f23 h k a, record_same h k a, lengths_same h k a (i + 1) lengths)
 
-module _ (image : List ℕ) (g : Geometry) (slot : ℕ) (bodies lengths : List ℕ) (j : judged image ≡ Volume g)
-    (w : write_refusal g image slot bodies lengths ≡ Passed) where
+module _ (image : List ℕ) (g : Geometry) (slot : ℕ) (bodies lengths : List ℕ) (j : judged image ≡ Ok g)
+    (w : write_refusal g image slot bodies lengths ≡ Ok tt) where
   abbrev h : List ℕ
   h = label_at g image slot
 
@@ -106,7 +104,7 @@ module _ (image : List ℕ) (g : Geometry) (slot : ℕ) (bodies lengths : List �
       sym (same_wrong g st t room a (set_same a q.0))
       ∙ blocks_right g room a (records_to_block g h) cs (good_records g image h) image (taken_legal image g slot bodies lengths j w) (image_length_lem image g j) q.1
 
-  right_kept : wrong_among g t (extent g k) ≡ Passed
+  right_kept : wrong_among g t (extent g k) ≡ Ok tt
   right_kept =
       ap (wrong_among g t) extent_same
       ∙ wrong_none g t (extent g h)
@@ -138,7 +136,7 @@ module _ (image : List ℕ) (g : Geometry) (slot : ℕ) (bodies lengths : List �
       go (d ∷ ds) z = rw (ne_eqb (suc (length ds)) 0 (λ (q : suc (length ds) ≡ 0). omega arith)) (and-false (ltb 0 U))
 
   -- THE FILE OPENS
-  pub opens_back : open_refusal g t slot ≡ Passed
+  pub opens_back : open_refusal g t slot ≡ Ok tt
   unfolding open_refusal has_label given_when
   opens_back =
       let p = passing g image slot bodies lengths w in

@@ -1,7 +1,7 @@
 -- THE IMAGE AFTER AN ACCEPTED WRITE AS A LIST OF WRITES CARRIED OUT: one for each physical record that the blocks fill, in order, and one for the label.
 -- Assumes nothing.
 use Prim.Native.Nat.{ℕ, suc, ◌+◌, ◌-◌, ◌*◌, ◌<◌, ◌≤◌}
-use Rattle.std.specs.Prelude.{◌≡◌, true, ◌⊎◌, get_or, drop}
+use Rattle.std.specs.Prelude.{◌≡◌, true, ◌⊎◌, get_or, drop, Ok}
 use Rattle.std.proofs.Math.Path.{refl, sym, ap}
 use Rattle.std.proofs.Common.{◌∙◌, inl, length-append, get_or-take, get_or-drop, take_at, ext_get_or}
 use Rattle.std.proofs.Math.Logic.{inr}
@@ -18,8 +18,6 @@ use Rattle.standard.specs.Packing.{Packing}
 use Rattle.standard.specs.Writing.{needed, packing, write_refusal, splice, filled_to, store_record, store_block, store_blocks, unused_field, data_end_after, set_label, image_with, image_after}
 use Rattle.standard.specs.declared.Geometry.{Geometry}
 use Rattle.standard.specs.declared.Address.{Address}
-use Rattle.standard.specs.declared.Checked.TheVariants.{Passed}
-use Rattle.standard.specs.declared.Judged.TheVariants.{Volume}
 use Rattle.promises.specs.Ground.Basics.{either, lt_or_le}
 use Rattle.promises.specs.Images.Tiling.{offset_data, sectors_apart, addresses_apart, address_size, address_room, size_index}
 use Rattle.promises.specs.Images.AddressLaws.{ordinal_ge}
@@ -171,8 +169,8 @@ set_as_one g slot U e s k =
     ∙ ap (λ (p : List ℕ). splice o (splice 74 y p) (splice o (splice 57 x h) s)) part
     ∙ splice_over o (splice 57 x h) (splice 74 y (splice 57 x h)) s (sym l₂) (omega arith)
 
-module _ (image : List ℕ) (g : Geometry) (slot : ℕ) (bodies lengths : List ℕ) (j : judged image ≡ Volume g)
-    (w : write_refusal g image slot bodies lengths ≡ Passed) where
+module _ (image : List ℕ) (g : Geometry) (slot : ℕ) (bodies lengths : List ℕ) (j : judged image ≡ Ok g)
+    (w : write_refusal g image slot bodies lengths ≡ Ok tt) where
   abbrev label : List ℕ
   label = label_at g image slot
 
@@ -289,8 +287,8 @@ apart_more : (us : List Write) (v : Write) → Apart us → EachWrite (λ u. Cle
 apart_more [] v a h = (tt, tt)
 apart_more (u ∷ us) v a h = (each_append (Clear u) us (v ∷ []) a.0 (h.0, tt), apart_more us v a.1 h.1)
 
-module _ (image : List ℕ) (g : Geometry) (slot : ℕ) (bodies lengths : List ℕ) (j : judged image ≡ Volume g)
-    (w : write_refusal g image slot bodies lengths ≡ Passed) where
+module _ (image : List ℕ) (g : Geometry) (slot : ℕ) (bodies lengths : List ℕ) (j : judged image ≡ Ok g)
+    (w : write_refusal g image slot bodies lengths ≡ Ok tt) where
   abbrev the_label : List ℕ
   the_label = label_at g image slot
 

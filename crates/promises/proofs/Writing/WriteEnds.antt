@@ -3,7 +3,7 @@
 -- valid mark".
 -- Assumes nothing.
 use Prim.Native.Nat.{ℕ, zero, suc, ◌+◌, ◌*◌, ◌/◌, ◌<◌, ◌≤◌}
-use Rattle.std.specs.Prelude.{◌≡◌, true, get_or, take, drop}
+use Rattle.std.specs.Prelude.{◌≡◌, true, get_or, take, drop, Ok}
 use Rattle.std.proofs.Math.Path.{refl, sym, ap}
 use Rattle.std.proofs.Common.{subst, ◌∙◌, length-drop, drop-cons, drop-drop, get_or-drop, get_or-take, length-take-le, add-one, not-suc-le-zero, mul-le-mul_right, le-div_iff_mul-le}
 use mathlib.Core.List.{List, [], ◌∷◌}
@@ -18,8 +18,6 @@ use Rattle.standard.specs.Files.{good_records, records_to_block, blocks_held}
 use Rattle.standard.specs.Writing.{needed, packing, write_refusal, filled_to, store_record, store_block, store_blocks, next_data_end, data_end_after, image_after}
 use Rattle.standard.specs.declared.Geometry.{Geometry}
 use Rattle.standard.specs.declared.Address.{Address}
-use Rattle.standard.specs.declared.Checked.TheVariants.{Passed}
-use Rattle.standard.specs.declared.Judged.TheVariants.{Volume}
 use Rattle.promises.specs.Ground.Basics.{either, lt_or_le}
 use Rattle.promises.specs.Ground.Lists.{Every, every_take, every_drop, every_map}
 use Rattle.promises.specs.Images.AddressLaws.{Legal, step_rank}
@@ -166,8 +164,8 @@ module _ (g : Geometry) where
       (all_at m t cs (drop m more) d b i k.1 (omega arith) u (omega (arith, length-drop m more)))
 
 -- ---- OF AN ACCEPTED WRITE
-module _ (image : List ℕ) (g : Geometry) (slot : ℕ) (bodies lengths : List ℕ) (j : judged image ≡ Volume g)
-    (w : write_refusal g image slot bodies lengths ≡ Passed) where
+module _ (image : List ℕ) (g : Geometry) (slot : ℕ) (bodies lengths : List ℕ) (j : judged image ≡ Ok g)
+    (w : write_refusal g image slot bodies lengths ≡ Ok tt) where
   abbrev the_label : List ℕ
   the_label = label_at g image slot
 

@@ -1,6 +1,6 @@
 -- WRITING, as promised: the theorems on a write in one place.
 -- Assumes nothing.
-use Rattle.std.specs.Prelude.{◌<◌, ℕ, ◌+◌, ◌≤◌, ◌≡◌, refl, length, drop}
+use Rattle.std.specs.Prelude.{◌<◌, ℕ, ◌+◌, ◌≤◌, ◌≡◌, refl, length, drop, Ok}
 use Rattle.std.proofs.Common.{subst, sym, ◌∙◌, length-drop, take-append-drop, length-take-le, arith}
 use Rattle.std.proofs.Math.Path.{ap}
 use mathlib.Core.List.{List, [], ◌∷◌, map, flatten}
@@ -20,10 +20,6 @@ use Rattle.standard.specs.Packing.{Packing, file_of}
 use Rattle.standard.specs.Reading.{reply}
 use Rattle.standard.specs.declared.Geometry.{Geometry}
 use Rattle.standard.specs.declared.Place.{Place}
-use Rattle.standard.specs.declared.Checked.TheVariants.{Passed}
-use Rattle.standard.specs.declared.Counted.TheVariants.{Count}
-use Rattle.standard.specs.declared.Judged.TheVariants.{Volume}
-use Rattle.standard.specs.declared.Written.TheVariants.{Blocks}
 use Rattle.promises.specs.Ground.Lists.{Every, every_both}
 use Rattle.promises.specs.Ground.Splices.{Outside}
 use Rattle.promises.specs.Images.AddressLaws.{Legal}
@@ -64,15 +60,15 @@ parted_joined (n ∷ lengths) bodies e =
     rw (parted_joined lengths (drop n bodies) (omega (arith, length-drop n bodies))) (take-append-drop n bodies)
 
 -- a file that opens is counted
-open_counts : (g : Geometry) (s : List ℕ) (slot : ℕ) → open_refusal g s slot ≡ Passed → count_refusal g s slot ≡ Passed
+open_counts : (g : Geometry) (s : List ℕ) (slot : ℕ) → open_refusal g s slot ≡ Ok tt → count_refusal g s slot ≡ Ok tt
 unfolding open_refusal count_refusal
 open_counts g s slot h =
     let (r13, (r14, (r15, (r16, (r17, (r18, _)))))) = order_each _ h in
     order_all _ (r13, (r14, (r17, (r18, tt))))
 
 -- AN ACCEPTED WRITE. (A refused one: Refusing.)
-module _ (image : List ℕ) (g : Geometry) (slot : ℕ) (bodies lengths : List ℕ) (j : judged image ≡ Volume g)
-    (w : write_refusal g image slot bodies lengths ≡ Passed) where
+module _ (image : List ℕ) (g : Geometry) (slot : ℕ) (bodies lengths : List ℕ) (j : judged image ≡ Ok g)
+    (w : write_refusal g image slot bodies lengths ≡ Ok tt) where
   abbrev label : List ℕ
   label = label_at g image slot
 
@@ -88,7 +84,7 @@ module _ (image : List ℕ) (g : Geometry) (slot : ℕ) (bodies lengths : List �
   after_t : after ≡ t
   after_t = after_is image g slot bodies lengths j w
 
-  pub answers : written image slot bodies lengths ≡ Blocks blocks
+  pub answers : written image slot bodies lengths ≡ Ok blocks
   answers = ap (λ (o : Outcome). o.answer) (outcome_is image g slot bodies lengths j w)
 
   -- 1. THE FRAME
@@ -106,7 +102,7 @@ module _ (image : List ℕ) (g : Geometry) (slot : ℕ) (bodies lengths : List �
       (every_both (Legal g) (λ x. Outside i (kind_offset g (ordinal g x)) (g.P + 1)) (taken_by g image label blocks) (taken_legal image g slot bodies lengths j w) h))
 
   -- 2. ACCEPTED AGAIN
-  pub accepted_still : judged after ≡ Volume g
+  pub accepted_still : judged after ≡ Ok g
   accepted_still = ap judged after_t ∙ judged_from t g (again image g slot bodies lengths j w)
 
   -- 3. THE TWO FIELDS OF THE LABEL, AND THE READ-BACK
@@ -116,10 +112,10 @@ module _ (image : List ℕ) (g : Geometry) (slot : ℕ) (bodies lengths : List �
   pub end_set : field (label_at g after slot) 75 79 ≡ five_bytes (data_end_after g image label blocks)
   end_set = ap (λ (s : List ℕ). field (label_at g s slot) 75 79) after_t ∙ result_end image g slot bodies lengths j w
 
-  pub opens : open_refusal g after slot ≡ Passed
+  pub opens : open_refusal g after slot ≡ Ok tt
   opens = ap (λ (s : List ℕ). open_refusal g s slot) after_t ∙ opens_back image g slot bodies lengths j w
 
-  pub counts : counted after slot ≡ Count blocks
+  pub counts : counted after slot ≡ Ok blocks
   unfolding counted
   counts =
       let c : block_count g after (label_at g after slot) ≡ blocks =

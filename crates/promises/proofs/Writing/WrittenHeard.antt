@@ -1,6 +1,6 @@
 -- WHAT A CALLER HEARS OF A WRITTEN FILE: following it from Start gives the bodies that were written, and End.
 -- Assumes nothing.
-use Rattle.std.specs.Prelude.{ℕ, zero, suc, ◌+◌, ◌≤◌, ◌≡◌, refl, Bool, true, false, List, [], ◌∷◌, ◌++◌, map, length, take, drop, ltb}
+use Rattle.std.specs.Prelude.{ℕ, zero, suc, ◌+◌, ◌≤◌, ◌≡◌, refl, Bool, true, false, List, [], ◌∷◌, ◌++◌, map, length, take, drop, ltb, Ok}
 use Rattle.std.proofs.Common.{sym, ap, subst, ◌∙◌, length-append, take_all, arith, le-ltb}
 use Rattle.std.proofs.lemmas.List.{length-map}
 use Rattle.std.proofs.Math.Seq.{take-nil}
@@ -13,8 +13,6 @@ use Rattle.standard.specs.Places.{start}
 use Rattle.standard.specs.Files.{file_in, file_at}
 use Rattle.standard.specs.Writing.{total, parted, write_refusal, image_after}
 use Rattle.standard.specs.declared.Geometry.{Geometry}
-use Rattle.standard.specs.declared.Checked.TheVariants.{Passed}
-use Rattle.standard.specs.declared.Judged.TheVariants.{Volume}
 use Rattle.promises.specs.Reading.ReadingLaws.{read_all_listed, Reads, body_of}
 use Rattle.promises.specs.Reading.Following.{Heard, told, done, refused, following, too_long, heard_in}
 use Rattle.promises.specs.Salvage.Failing.{ReadsWhole}
@@ -59,8 +57,8 @@ unfolding parted
 parted_count [] bodies = refl
 parted_count (n ∷ lengths) bodies = ap suc (parted_count lengths (drop n bodies))
 
-module _ (image : List ℕ) (g : Geometry) (slot : ℕ) (bodies lengths : List ℕ) (j : judged image ≡ Volume g)
-    (w : write_refusal g image slot bodies lengths ≡ Passed) where
+module _ (image : List ℕ) (g : Geometry) (slot : ℕ) (bodies lengths : List ℕ) (j : judged image ≡ Ok g)
+    (w : write_refusal g image slot bodies lengths ≡ Ok tt) where
   abbrev after : List ℕ
   after = image_after image slot bodies lengths
 

@@ -1,6 +1,6 @@
 -- The image after an accepted write: its sectors and its labels beside those of the image before.
 -- Assumes nothing.
-use Rattle.std.specs.Prelude.{ℕ, ◌+◌, ◌<◌, ◌≤◌, ◌≡◌, true, take, drop}
+use Rattle.std.specs.Prelude.{ℕ, ◌+◌, ◌<◌, ◌≤◌, ◌≡◌, true, take, drop, Ok}
 use Rattle.std.proofs.Math.Path.{ap, sym}
 use Rattle.std.proofs.Common.{subst, ◌∙◌, length-take, length-drop, get_or-take, get_or-drop, arith}
 use Rattle.std.proofs.Math.Logic.{inl, inr}
@@ -14,8 +14,6 @@ use Rattle.standard.specs.Files.{good_records, records_to_block}
 use Rattle.standard.specs.Writing.{needed, packing, write_refusal, data_end_after, image_with, unused_field}
 use Rattle.standard.specs.declared.Geometry.{Geometry}
 use Rattle.standard.specs.declared.Address.{Address}
-use Rattle.standard.specs.declared.Checked.TheVariants.{Passed}
-use Rattle.standard.specs.declared.Judged.TheVariants.{Volume}
 use Rattle.promises.specs.Ground.Basics.{either, lt_or_le, eq_or_not}
 use Rattle.promises.specs.Ground.Lists.{Every, every_map}
 use Rattle.promises.specs.Ground.Splices.{Outside, part_part}
@@ -40,8 +38,8 @@ unfolding label_at
 label_beyond g t slot i l =
     get_or-eq_default (take 128 (drop (label_offset g slot) t)) 0 (omega (arith, length-take 128 (drop (label_offset g slot) t)))
 
-module _ (image : List ℕ) (g : Geometry) (slot : ℕ) (bodies lengths : List ℕ) (j : judged image ≡ Volume g)
-    (w : write_refusal g image slot bodies lengths ≡ Passed) where
+module _ (image : List ℕ) (g : Geometry) (slot : ℕ) (bodies lengths : List ℕ) (j : judged image ≡ Ok g)
+    (w : write_refusal g image slot bodies lengths ≡ Ok tt) where
   abbrev old : List ℕ
   old = label_at g image slot
 

@@ -1,6 +1,6 @@
 -- The label after an accepted write: U and the data end as packed, and no rule broken.
 -- Assumes nothing.
-use Rattle.std.specs.Prelude.{ℕ, ◌%◌, ◌<◌, ◌≤◌, ◌≡◌, Bool, ◌&&◌, ◌||◌, List}
+use Rattle.std.specs.Prelude.{ℕ, ◌%◌, ◌<◌, ◌≤◌, ◌≡◌, Bool, ◌&&◌, ◌||◌, List, Ok}
 use Rattle.std.proofs.Math.Path.{refl}
 use Rattle.std.proofs.Math.Bool.{true, false, not}
 use Rattle.std.proofs.Math.Dec.{ltb, eqb}
@@ -15,8 +15,6 @@ use Rattle.standard.specs.Files.{good_records, records_to_block, blocks_held}
 use Rattle.standard.specs.Writing.{parted, needed, packing, write_refusal, data_end_after}
 use Rattle.standard.specs.declared.Geometry.{Geometry}
 use Rattle.standard.specs.declared.Address.{Address}
-use Rattle.standard.specs.declared.Checked.TheVariants.{Passed}
-use Rattle.standard.specs.declared.Judged.TheVariants.{Volume}
 use Rattle.promises.specs.Ground.Basics.{or_right}
 use Rattle.promises.specs.Volumes.AcceptedLaws.{label_faultless}
 use Rattle.promises.specs.Volumes.LabelRules.{Rules, label_rules, fixed_format}
@@ -30,8 +28,8 @@ use Rattle.promises.specs.Writing.AlikeLabels.{Alike, f23, f29, a40, a63, record
 use Rattle.promises.specs.Writing.DataEnds.{Ending, ending}
 use Rattle.promises.proofs.Writing.WrittenImage.{unused, data_end, result, result_label, result_unused, result_end}
 
-module _ (image : List ℕ) (g : Geometry) (slot : ℕ) (bodies lengths : List ℕ) (j : judged image ≡ Volume g)
-    (w : write_refusal g image slot bodies lengths ≡ Passed) where
+module _ (image : List ℕ) (g : Geometry) (slot : ℕ) (bodies lengths : List ℕ) (j : judged image ≡ Ok g)
+    (w : write_refusal g image slot bodies lengths ≡ Ok tt) where
   abbrev h : List ℕ
   h = label_at g image slot
 

@@ -1,23 +1,17 @@
 -- THE ONE RETURNED NUMBER, the caller's side: how a caller in C takes it apart, as include/galzeranta.h does. proofs/Bounds/PackedLaws proves that it then has
 -- the answer of the definitions again, all of it.
 -- Assumes nothing.
-use Rattle.std.specs.Prelude.{ℕ, ◌*◌, ◌/◌, ◌%◌, ◌^◌, Bool, cond, eqb}
+use Rattle.std.specs.Prelude.{ℕ, ◌*◌, ◌/◌, ◌%◌, ◌^◌, Bool, cond, eqb, Result, Ok, Err}
 use Rattle.standard.specs.declared.Address.{Address}
 use Rattle.standard.specs.declared.Created.{Created}
-use Rattle.standard.specs.declared.Created.TheVariants.{Uncreated, Placed}
 use Rattle.standard.specs.declared.Geometry.{Geometry}
 use Rattle.standard.specs.declared.Refusal.{Refusal}
 use Rattle.standard.specs.declared.Place.{Place}
-use Rattle.standard.specs.declared.Judged.{Judged}
-use Rattle.standard.specs.declared.Judged.TheVariants.{Refused, Volume}
 use Rattle.standard.specs.declared.Found.{Found}
-use Rattle.standard.specs.declared.Found.TheVariants.{Unfound, At}
-use Rattle.standard.specs.declared.Counted.{Counted}
-use Rattle.standard.specs.declared.Counted.TheVariants.{Uncounted, Count}
 use Rattle.standard.specs.declared.Answer.{Answer}
-use Rattle.standard.specs.declared.Answer.TheVariants.{Unanswered, Record as RecordOf, Gap, End}
-use Rattle.standard.specs.declared.Written.{Written}
-use Rattle.standard.specs.declared.Written.TheVariants.{Unwritten, Blocks}
+use Rattle.standard.specs.declared.Answer.TheVariants.{Record as RecordOf, Gap, End}
+use Rattle.standard.specs.Creating.{file_made}
+use Rattle.standard.specs.Finding.{label_found}
 use Rattle.promises.specs.Bounds.WritingSizes.{capped}
 
 -- ---- the caller's side
@@ -50,41 +44,41 @@ geometry_back n =
       d2 = bits 40 8 n;
     }
 
-abbrev pub judged_back : ℕ → Judged
-judged_back n = cond (is_done n) (Volume (geometry_back n)) (Refused (refusal_back n))
+abbrev pub judged_back : ℕ → Result Geometry Refusal
+judged_back n = cond (is_done n) (Ok (geometry_back n)) (Err (refusal_back n))
 
 -- "slot in bits 24-55, the label's byte offset in the image in bits 0-23"
-abbrev pub found_back : ℕ → Found
-found_back n = cond (is_done n) (At (bits 24 32 n) (bits 0 24 n)) (Unfound (refusal_back n))
+abbrev pub found_back : ℕ → Result Found Refusal
+found_back n = cond (is_done n) (label_found (bits 24 32 n) (bits 0 24 n)) (Err (refusal_back n))
 
 -- "the number of blocks"; "the number of free physical records"
-abbrev pub counted_back : ℕ → Counted
-counted_back n = cond (is_done n) (Count (bits 0 56 n)) (Uncounted (refusal_back n))
+abbrev pub counted_back : ℕ → Result ℕ Refusal
+counted_back n = cond (is_done n) (Ok (bits 0 56 n)) (Err (refusal_back n))
 
 -- "Record, gap and End carry the next place: bit 0 its mark, bits 1-15 its offset, bits 16-31 its block; bits 32-55 the record's length"; code 128 is a gap,
 -- 129 is End
 unfoldable pub place_back : ℕ → Place
 place_back n = record { block = bits 16 16 n; offset = bits 1 15 n; mark = eqb (bits 0 1 n) 1 }
 
-abbrev pub answer_back : ℕ → Answer
+abbrev pub answer_back : ℕ → Result Answer Refusal
 answer_back n =
-    cond (is_done n) (RecordOf (bits 32 24 n) (place_back n))
-    (cond (eqb (code_of n) 128) (Gap (place_back n))
-    (cond (eqb (code_of n) 129) (End (place_back n))
-    (Unanswered (refusal_back n))))
+    cond (is_done n) (Ok (RecordOf (bits 32 24 n) (place_back n)))
+    (cond (eqb (code_of n) 128) (Ok (Gap (place_back n)))
+    (cond (eqb (code_of n) 129) (Ok (End (place_back n)))
+    (Err (refusal_back n))))
 
 -- "the number of blocks written"
-abbrev pub written_back : ℕ → Written
-written_back n = cond (is_done n) (Blocks (bits 0 56 n)) (Unwritten (refusal_back n))
+abbrev pub written_back : ℕ → Result ℕ Refusal
+written_back n = cond (is_done n) (Ok (bits 0 56 n)) (Err (refusal_back n))
 
 -- "A first place above 2^32-1 is given as 2^32-1": only in writing, of lists that fit in no machine
-abbrev pub capped_written : Written → Written
-capped_written (Unwritten r) = Unwritten (capped r)
-capped_written (Blocks n) = Blocks n
+abbrev pub capped_written : Result ℕ Refusal → Result ℕ Refusal
+capped_written (Err r) = Err (capped r)
+capped_written (Ok n) = Ok n
 
 -- "slot in bits 24-55; the start as the number of its five digits (cylinder·1000 + side·100 + sector) in bits 0-23"
 unfoldable pub address_back : ℕ → Address
 address_back n = record { cylinder = n / 1000; side = n / 100 % 10; sector = n % 100 }
 
-abbrev pub created_back : ℕ → Created
-created_back n = cond (is_done n) (Placed (bits 24 32 n) (address_back (bits 0 24 n))) (Uncreated (refusal_back n))
+abbrev pub created_back : ℕ → Result Created Refusal
+created_back n = cond (is_done n) (file_made (bits 24 32 n) (address_back (bits 0 24 n))) (Err (refusal_back n))

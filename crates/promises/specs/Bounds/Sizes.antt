@@ -1,6 +1,6 @@
 -- How large the numbers in an answer can be: a volume's numbers, its slots and sectors, the places of refusals.
 -- Assumes nothing.
-use Rattle.std.specs.Prelude.{ℕ, suc, ◌+◌, ◌-◌, ◌*◌, ◌^◌, ◌<◌, ◌≤◌, ◌≡◌, Bool, true, false, cond, not, ◌&&◌, List, [], ◌∷◌, length, ltb, eqb}
+use Rattle.std.specs.Prelude.{ℕ, suc, ◌+◌, ◌-◌, ◌*◌, ◌^◌, ◌<◌, ◌≤◌, ◌≡◌, Bool, true, false, cond, not, ◌&&◌, List, [], ◌∷◌, length, ltb, eqb, Result, Ok, Err, ⊤}
 use Rattle.std.proofs.Math.Path.{refl}
 use Rattle.std.proofs.Common.{sym, subst, arith, mul-le-mul_right, ltb-true, lt-ltb}
 use Rattle.std.proofs.Math.Nat.{mul-le-mul_left}
@@ -14,18 +14,12 @@ use Rattle.standard.specs.Labels.{end_of, hdr1_rules, label_fault}
 use Rattle.standard.specs.Slots.{has_label, slot_refusal}
 use Rattle.standard.specs.Refusals.{refuse, refuse_at, given_when, in_order}
 use Rattle.standard.specs.Judgement.{volume_of, volume_list, refusal1, refusal2, refusal3, refusal6, refusal7, refusal8to10, refusal11, refusal12, clashes_from, shares, namesake, judged}
-use Rattle.standard.specs.Finding.{found}
+use Rattle.standard.specs.Finding.{found, label_found}
 use Rattle.standard.specs.Free.{free_records, free_count}
 use Rattle.standard.specs.Files.{extent, extent_size, is_defective, good_among, good_records, block_count, refusal13, refusal17, count_list, count_or, count_refusal, counted, open_refusal}
 use Rattle.standard.specs.declared.Geometry.{Geometry}
 use Rattle.standard.specs.declared.Address.{Address}
 use Rattle.standard.specs.declared.Refusal.{Refusal}
-use Rattle.standard.specs.declared.Checked.{Checked}
-use Rattle.standard.specs.declared.Checked.TheVariants.{Passed, Stopped}
-use Rattle.standard.specs.declared.Judged.{Judged}
-use Rattle.standard.specs.declared.Judged.TheVariants.{Refused, Volume}
-use Rattle.standard.specs.declared.Found.TheVariants.{Unfound, At}
-use Rattle.standard.specs.declared.Counted.TheVariants.{Uncounted, Count}
 use Rattle.promises.specs.Ground.Basics.{and_l, and_r, cond_elim, never}
 use Rattle.promises.specs.Ground.Lists.{Every, every_right}
 use Rattle.promises.specs.Images.AddressLaws.{Legal, rank_lt}
@@ -72,7 +66,7 @@ good_few g image (a ∷ xs) =
     let k = good_few g image xs in
     cond_elim (λ (ys : List Address). length ys ≤ suc (length xs)) (is_defective g image a) {x = good_among g image xs} {y = a ∷ good_among g image xs} (λ _. omega arith) (λ _. omega arith)
 
-module _ (image : List ℕ) (g : Geometry) (j : judged image ≡ Volume g) where
+module _ (image : List ℕ) (g : Geometry) (j : judged image ≡ Ok g) where
   ns : Numbers g
   ns = numbers_of_lem image g j
 
@@ -97,7 +91,7 @@ module _ (image : List ℕ) (g : Geometry) (j : judged image ≡ Volume g) where
       (few, rw (lt-ltb (slot + 6) (index_sectors g) i) (omega arith))
 
   -- ---- what is found
-  found_low : (name : List ℕ) (slot offset : ℕ) → found image name ≡ At slot offset → (slot ≤ 45) × (offset ≤ 6580)
+  found_low : (name : List ℕ) (slot offset : ℕ) → found image name ≡ label_found slot offset → (slot ≤ 45) × (offset ≤ 6580)
   found_low name slot offset h =
       let f = (find_named image g j name slot offset).0 h in
       let l = label_low slot f.1 in
@@ -115,7 +109,7 @@ pub record Small (r : Refusal) : Type 0 where
 pub small_one : (number place : ℕ) → 1 ≤ number → number ≤ 29 → place < 2 ^ 32 → Small (refuse number place)
 small_one number place l h p = record { number_low = l; number_high = h; first_low = p; second_low = omega arith; third_none = refl }
 
-pub small_given : (t : Bool) (q r : Refusal) → Small q → given_when t q ≡ Stopped r → Small r
+pub small_given : (t : Bool) (q r : Refusal) → Small q → given_when t q ≡ Err r → Small r
 small_given t q r s h = subst Small (sym ((given_exactly t q r).0 h).1) s
 
 -- small, and of another number than VOL1's
@@ -125,17 +119,17 @@ Other r = (r.number ≡ 3 → ⊥) × Small r
 other_one : (number place : ℕ) → (number ≡ 3 → ⊥) → 1 ≤ number → number ≤ 29 → place < 2 ^ 32 → Other (refuse number place)
 other_one number place ne l h p = (ne, small_one number place l h p)
 
-other_given : (t : Bool) (q r : Refusal) → Other q → given_when t q ≡ Stopped r → Other r
+other_given : (t : Bool) (q r : Refusal) → Other q → given_when t q ≡ Err r → Other r
 other_given t q r s h = subst Other (sym ((given_exactly t q r).0 h).1) s
 
 -- the first of a list is given, or the rest decides
-pub by_order : {A : Type 0} (c : Checked) (rest : List Checked) (r : Refusal) → in_order (c ∷ rest) ≡ Stopped r
-    → (c ≡ Stopped r → A) → (c ≡ Passed → in_order rest ≡ Stopped r → A) → A
+pub by_order : {A : Type 0} (c : Result ⊤ Refusal) (rest : List (Result ⊤ Refusal)) (r : Refusal) → in_order (c ∷ rest) ≡ Err r
+    → (c ≡ Err r → A) → (c ≡ Ok tt → in_order rest ≡ Err r → A) → A
 unfolding in_order
-by_order Passed rest r h stop on = on refl h
-by_order (Stopped q) rest r h stop on = stop h
+by_order (Ok _) rest r h stop on = on refl h
+by_order (Err q) rest r h stop on = stop h
 
-pub by_none : {A : Type 0} (r : Refusal) → in_order [] ≡ Stopped r → A
+pub by_none : {A : Type 0} (r : Refusal) → in_order [] ≡ Err r → A
 unfolding in_order
 by_none r h = never (cc)
 
@@ -164,7 +158,7 @@ unfolding label_fault hdr1_rules
 hdr1_position g h = fault_below (hdr1_rules g h) refl
 
 -- one slot
-slot_other : (g : Geometry) (image : List ℕ) (slot : ℕ) (r : Refusal) → slot ≤ 45 → slot_refusal g image slot ≡ Stopped r → Other r
+slot_other : (g : Geometry) (image : List ℕ) (slot : ℕ) (r : Refusal) → slot ≤ 45 → slot_refusal g image slot ≡ Err r → Other r
 unfolding slot_refusal
 slot_other g image slot r l h =
     let p = hdr1_position g (label_at g image slot) in
@@ -176,7 +170,7 @@ slot_other g image slot r l h =
 
 -- A REFUSAL OF THE VOLUME is VOL1's, behind 1 and 2, or of another number than 3
 pub data VolumeFault (image : List ℕ) (r : Refusal) : Type 0 where
-  of_vol1 : refusal1 image ≡ Passed → refusal2 image ≡ Passed → refusal3 (vol1_of image) ≡ Stopped r → VolumeFault image r
+  of_vol1 : refusal1 image ≡ Ok tt → refusal2 image ≡ Ok tt → refusal3 (vol1_of image) ≡ Err r → VolumeFault image r
   of_another : Other r → VolumeFault image r
 
 -- the volume: 6 to 12 are reached only where VOL1 has given the numbers
@@ -184,29 +178,29 @@ module _ (image : List ℕ) where
   abbrev g : Geometry
   g = volume_of image
 
-  two_other : (r : Refusal) → refusal2 image ≡ Stopped r → Other r
+  two_other : (r : Refusal) → refusal2 image ≡ Err r → Other r
   two_other r h =
       by_order _ _ r h (other_given _ _ r (other_one 2 5 (λ q. omega (arith, q)) (omega arith) (omega arith) (omega arith)))
       (λ _ h7. by_order _ _ r h7 (other_given _ _ r (other_one 2 7 (λ q. omega (arith, q)) (omega arith) (omega arith) (omega arith)))
       (λ _ none. by_none r none))
 
-  kinds_other : Numbers g → (r : Refusal) → refusal6 g image ≡ Stopped r → Other r
+  kinds_other : Numbers g → (r : Refusal) → refusal6 g image ≡ Err r → Other r
   kinds_other n r h =
       let f = (place_6 g image r).0 h in
       subst Other (sym f.is_so.1) (other_one 6 f.place (λ q. omega (arith, q)) (omega arith) (omega arith) (omega (arith, f.high, sectors_few g n)))
 
-  slots_other : Numbers g → (r : Refusal) → refusal8to10 g image ≡ Stopped r → Other r
+  slots_other : Numbers g → (r : Refusal) → refusal8to10 g image ≡ Err r → Other r
   slots_other n r h =
       let f = (slots_first g image (slot_count g) 1 r).0 h in
       slot_other g image f.place r (omega (arith, f.high, slots_few g n)) f.is_so
 
-  clash_other : Numbers g → (clash : ℕ → ℕ → Bool) (number : ℕ) → 4 ≤ number → number ≤ 29 → (r : Refusal) → clashes_from clash number (slot_count g) 1 ≡ Stopped r → Other r
+  clash_other : Numbers g → (clash : ℕ → ℕ → Bool) (number : ℕ) → 4 ≤ number → number ≤ 29 → (r : Refusal) → clashes_from clash number (slot_count g) 1 ≡ Err r → Other r
   clash_other n clash number l m r h =
       let f = (clashes_first clash number (slot_count g) 1 r).0 h in
       subst Other (sym f.is_so.1) (other_one number f.place (λ q. omega (arith, q)) (omega arith) m (omega (arith, f.high, slots_few g n)))
 
   late_other : Numbers g → (r : Refusal)
-      → in_order (refusal6 g image ∷ refusal7 g.L (ermap_of image) ∷ refusal8to10 g image ∷ refusal11 g image ∷ refusal12 g image ∷ []) ≡ Stopped r → Other r
+      → in_order (refusal6 g image ∷ refusal7 g.L (ermap_of image) ∷ refusal8to10 g image ∷ refusal11 g image ∷ refusal12 g image ∷ []) ≡ Err r → Other r
   late_other n r h =
       let p = ermap_position g.L (ermap_of image) in
       by_order _ _ r h (kinds_other n r)
@@ -216,7 +210,7 @@ module _ (image : List ℕ) where
       (λ _ h12. by_order _ _ r h12 (clash_other n (namesake g image) 12 (omega arith) (omega arith) r)
       (λ _ none. by_none r none)))))
 
-  pub volume_fault : (r : Refusal) → judged image ≡ Refused r → VolumeFault image r
+  pub volume_fault : (r : Refusal) → judged image ≡ Err r → VolumeFault image r
   volume_fault r j =
       by_order _ _ r (first_order (volume_list image g) r ((volume_first image r).0 j))
       (λ h. of_another (other_given _ _ r (other_one 1 0 (λ q. omega (arith, q)) (omega arith) (omega arith) (omega arith)) h))
@@ -228,7 +222,7 @@ module _ (image : List ℕ) where
       (λ h. of_another (other_given _ _ r (other_one 5 0 (λ q. omega (arith, q)) (omega arith) (omega arith) (omega arith)) h))
       (λ _ h6. of_another (late_other (of_rules image (vol1_right (vol1_of image) vol1)) r h6))))))
 
-  pub volume_small : (r : Refusal) → judged image ≡ Refused r → Small r
+  pub volume_small : (r : Refusal) → judged image ≡ Err r → Small r
   volume_small r j = go (volume_fault r j)
     where
       go : VolumeFault image r → Small r
@@ -238,23 +232,23 @@ module _ (image : List ℕ) where
       go (of_another other) = other.1
 
 -- a file of an accepted volume: behind 13 the slot is one of the volume
-module _ (image : List ℕ) (g : Geometry) (j : judged image ≡ Volume g) (slot : ℕ) where
-  pub labelled : refusal13 g image slot ≡ Passed → has_label g image slot ≡ true
+module _ (image : List ℕ) (g : Geometry) (j : judged image ≡ Ok g) (slot : ℕ) where
+  pub labelled : refusal13 g image slot ≡ Ok tt → has_label g image slot ≡ true
   labelled h = not-false (has_label g image slot) (not_given (not (has_label g image slot)) _ h)
 
   pub slot_low : has_label g image slot ≡ true → slot ≤ 45
   slot_low l = (label_low image g j slot (has_slot g image slot l).1).0
 
-  pub thirteen_small : (r : Refusal) → refusal13 g image slot ≡ Stopped r → Small r
+  pub thirteen_small : (r : Refusal) → refusal13 g image slot ≡ Err r → Small r
   thirteen_small r = small_given _ _ r (small_one 13 0 (omega arith) (omega arith) (omega arith))
 
   -- 14, 15, 16, 18, 24: the slot
   pub names_slot : has_label g image slot ≡ true → (number : ℕ) → 1 ≤ number → number ≤ 29 → (t : Bool) (r : Refusal)
-      → given_when t (refuse number slot) ≡ Stopped r → Small r
+      → given_when t (refuse number slot) ≡ Err r → Small r
   names_slot l number low high t r = small_given t (refuse number slot) r (small_one number slot low high (omega (arith, slot_low l)))
 
   -- 17: the ordinal of a sector
-  pub wrong_small : has_label g image slot ≡ true → (r : Refusal) → refusal17 g image (label_at g image slot) ≡ Stopped r → Small r
+  pub wrong_small : has_label g image slot ≡ true → (r : Refusal) → refusal17 g image (label_at g image slot) ≡ Err r → Small r
   wrong_small l r h =
       let k = label_at g image slot in
       let f = (place_17 g image (extent g k) r).0 h in
@@ -263,7 +257,7 @@ module _ (image : List ℕ) (g : Geometry) (j : judged image ≡ Volume g) (slot
       subst Small (sym f.is_so.1)
       (small_one 17 (ordinal g f.it) (omega arith) (omega arith) (omega (arith, address_inside g f.it there, sectors_few g (numbers_of_lem image g j))))
 
-  count_on_small : (r : Refusal) → counted image slot ≡ Uncounted r → Small r
+  count_on_small : (r : Refusal) → counted image slot ≡ Err r → Small r
   count_on_small r h =
       by_order _ _ r (first_order (count_list g image slot) r ((count_first image g j slot r).0 h)) (thirteen_small r)
       (λ at h14. let l = labelled at in
@@ -273,7 +267,7 @@ module _ (image : List ℕ) (g : Geometry) (j : judged image ≡ Volume g) (slot
       (λ _ none. by_none r none))))
 
   -- 13 to 18, which every reading asks first
-  pub open_small : (r : Refusal) → open_refusal g image slot ≡ Stopped r → Small r
+  pub open_small : (r : Refusal) → open_refusal g image slot ≡ Err r → Small r
   unfolding open_refusal
   open_small r h =
       by_order _ _ r h (thirteen_small r)
@@ -285,61 +279,61 @@ module _ (image : List ℕ) (g : Geometry) (j : judged image ≡ Volume g) (slot
       (λ _ h18. by_order _ _ r h18 (names_slot l 18 (omega arith) (omega arith) _ r)
       (λ _ none. by_none r none))))))
 
-  count_on_few : (n : ℕ) → counted image slot ≡ Count n → n ≤ 4992
+  count_on_few : (n : ℕ) → counted image slot ≡ Ok n → n ≤ 4992
   unfolding counted count_refusal
   count_on_few n h = go (in_order (count_list g image slot)) refl (rw j at h)
     where
-      go : (c : Checked) → in_order (count_list g image slot) ≡ c → count_or c (block_count g image (label_at g image slot)) ≡ Count n → n ≤ 4992
-      go (Stopped q) e k = never (cc)
-      go Passed e k =
+      go : (c : Result ⊤ Refusal) → in_order (count_list g image slot) ≡ c → count_or c (block_count g image (label_at g image slot)) ≡ Ok n → n ≤ 4992
+      go (Err q) e k = never (cc)
+      go (Ok _) e k =
           let same : block_count g image (label_at g image slot) ≡ n = cc in
           let (r13, _) = order_each _ e in
           omega (arith, blocks_few image g j slot (labelled r13))
 
 module _ (image : List ℕ) where
-  pub count_small : (slot : ℕ) (r : Refusal) → counted image slot ≡ Uncounted r → Small r
+  pub count_small : (slot : ℕ) (r : Refusal) → counted image slot ≡ Err r → Small r
   count_small slot r h = on (judged image) refl
     where
-      on : (v : Judged) → judged image ≡ v → Small r
-      on (Refused q) j = let e = (volume_stops image q j).2 slot in let same : q ≡ r = cc in subst Small same (volume_small image q j)
-      on (Volume g) j = count_on_small image g j slot r h
+      on : (v : Result Geometry Refusal) → judged image ≡ v → Small r
+      on (Err q) j = let e = (volume_stops image q j).2 slot in let same : q ≡ r = cc in subst Small same (volume_small image q j)
+      on (Ok g) j = count_on_small image g j slot r h
 
-  pub find_small : (name : List ℕ) (r : Refusal) → found image name ≡ Unfound r → Small r
+  pub find_small : (name : List ℕ) (r : Refusal) → found image name ≡ Err r → Small r
   find_small name r h = on (judged image) refl
     where
-      on : (v : Judged) → judged image ≡ v → Small r
-      on (Refused q) j = let e = (volume_stops image q j).0 name in let same : q ≡ r = cc in subst Small same (volume_small image q j)
-      on (Volume g) j = subst Small (sym ((find_none image g j name r).0 h).0) (small_one 13 0 (omega arith) (omega arith) (omega arith))
+      on : (v : Result Geometry Refusal) → judged image ≡ v → Small r
+      on (Err q) j = let e = (volume_stops image q j).0 name in let same : q ≡ r = cc in subst Small same (volume_small image q j)
+      on (Ok g) j = subst Small (sym ((find_none image g j name r).0 h).0) (small_one 13 0 (omega arith) (omega arith) (omega arith))
 
-  pub free_small : (r : Refusal) → free_count image ≡ Uncounted r → Small r
+  pub free_small : (r : Refusal) → free_count image ≡ Err r → Small r
   free_small r h = on (judged image) refl
     where
-      on : (v : Judged) → judged image ≡ v → Small r
-      on (Refused q) j = let e = (volume_stops image q j).3 in let same : q ≡ r = cc in subst Small same (volume_small image q j)
-      on (Volume g) j = let e = free_counted image g j in never (cc)
+      on : (v : Result Geometry Refusal) → judged image ≡ v → Small r
+      on (Err q) j = let e = (volume_stops image q j).3 in let same : q ≡ r = cc in subst Small same (volume_small image q j)
+      on (Ok g) j = let e = free_counted image g j in never (cc)
 
   -- what is counted
-  pub count_few : (slot n : ℕ) → counted image slot ≡ Count n → n ≤ 4992
+  pub count_few : (slot n : ℕ) → counted image slot ≡ Ok n → n ≤ 4992
   count_few slot n h = on (judged image) refl
     where
-      on : (v : Judged) → judged image ≡ v → n ≤ 4992
-      on (Refused q) j = let e = (volume_stops image q j).2 slot in never (cc)
-      on (Volume g) j = count_on_few image g j slot n h
+      on : (v : Result Geometry Refusal) → judged image ≡ v → n ≤ 4992
+      on (Err q) j = let e = (volume_stops image q j).2 slot in never (cc)
+      on (Ok g) j = count_on_few image g j slot n h
 
-  pub free_low : (n : ℕ) → free_count image ≡ Count n → n ≤ 4992
+  pub free_low : (n : ℕ) → free_count image ≡ Ok n → n ≤ 4992
   free_low n h = on (judged image) refl
     where
-      on : (v : Judged) → judged image ≡ v → n ≤ 4992
-      on (Refused q) j = let e = (volume_stops image q j).3 in never (cc)
-      on (Volume g) j =
+      on : (v : Result Geometry Refusal) → judged image ≡ v → n ≤ 4992
+      on (Err q) j = let e = (volume_stops image q j).3 in never (cc)
+      on (Ok g) j =
           let e = free_counted image g j in
           let same : free_records g image ≡ n = cc in
           omega (arith, free_few image g j)
 
   -- what is found: the slot, and the label's offset, on any image
-  pub find_low : (name : List ℕ) (slot offset : ℕ) → found image name ≡ At slot offset → (slot ≤ 45) × (offset ≤ 6580)
+  pub find_low : (name : List ℕ) (slot offset : ℕ) → found image name ≡ label_found slot offset → (slot ≤ 45) × (offset ≤ 6580)
   find_low name slot offset h = on (judged image) refl
     where
-      on : (v : Judged) → judged image ≡ v → (slot ≤ 45) × (offset ≤ 6580)
-      on (Refused q) j = let e = (volume_stops image q j).0 name in never (cc)
-      on (Volume g) j = found_low image g j name slot offset h
+      on : (v : Result Geometry Refusal) → judged image ≡ v → (slot ≤ 45) × (offset ≤ 6580)
+      on (Err q) j = let e = (volume_stops image q j).0 name in never (cc)
+      on (Ok g) j = found_low image g j name slot offset h

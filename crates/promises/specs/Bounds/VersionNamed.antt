@@ -1,6 +1,6 @@
 -- Request 2026-02: where 3 is given, which positions it names, and when it names 80.
 -- Assumes nothing.
-use Rattle.std.specs.Prelude.{ℕ, ◌<◌, ◌≡◌, refl, Bool, true, false, cond, List, [], ◌∷◌, take, drop, eqb, ltb}
+use Rattle.std.specs.Prelude.{ℕ, ◌<◌, ◌≡◌, refl, Bool, true, false, cond, List, [], ◌∷◌, take, drop, eqb, ltb, Result, Ok, Err, ⊤}
 use Rattle.std.proofs.Common.{sym, ap, subst, ◌∙◌, inr, arith, eqb-true, ne_eqb, ltb-true, lt-ltb}
 use Rattle.standard.specs.Characters.{bytes, byte, one_of, at}
 use Rattle.standard.specs.Refusals.{refuse}
@@ -10,9 +10,6 @@ use Rattle.standard.specs.Volume.{vol1_rules}
 use Rattle.standard.specs.Judgement.{volume_of, volume_list, judged, refusal1, refusal2, refusal3}
 use Rattle.standard.specs.declared.Geometry.{Geometry}
 use Rattle.standard.specs.declared.Refusal.{Refusal}
-use Rattle.standard.specs.declared.Checked.{Checked}
-use Rattle.standard.specs.declared.Checked.TheVariants.{Passed, Stopped}
-use Rattle.standard.specs.declared.Judged.TheVariants.{Refused, Volume}
 use Rattle.promises.specs.Ground.Basics.{by_test, true_not_false, or_rest}
 use Rattle.promises.specs.Ground.Lists.{Every}
 use Rattle.promises.specs.Volumes.Judging.{accepted, rows_each}
@@ -22,11 +19,11 @@ use Rattle.promises.specs.Refusals.PlacesNamed.{given_exactly, held_named}
 use Rattle.promises.specs.Bounds.Sizes.{VolumeFault, of_vol1, of_another, volume_fault}
 
 -- ---- 3 IS VOL1'S, behind 1 and 2: no other refusal of the volume has that number
-three_of_vol1 : (image : List ℕ) (r : Refusal) → r.number ≡ 3 → judged image ≡ Refused r
-    → (refusal1 image ≡ Passed) × (refusal2 image ≡ Passed) × (refusal3 (vol1_of image) ≡ Stopped r)
+three_of_vol1 : (image : List ℕ) (r : Refusal) → r.number ≡ 3 → judged image ≡ Err r
+    → (refusal1 image ≡ Ok tt) × (refusal2 image ≡ Ok tt) × (refusal3 (vol1_of image) ≡ Err r)
 three_of_vol1 image r three j = go (volume_fault image r j)
   where
-    go : VolumeFault image r → (refusal1 image ≡ Passed) × (refusal2 image ≡ Passed) × (refusal3 (vol1_of image) ≡ Stopped r)
+    go : VolumeFault image r → (refusal1 image ≡ Ok tt) × (refusal2 image ≡ Ok tt) × (refusal3 (vol1_of image) ≡ Err r)
     go (of_vol1 long readable here) = (long, readable, here)
     go (of_another other) = absurd (other.0 three)
 
@@ -42,12 +39,12 @@ unfolding one_of
 not_zero ps n l h = or_rest (eqb n 0) _ (ne_eqb n 0 (λ q. omega (arith, q))) h
 
 -- what is given for VOL1 names the lowest fault
-fault_given : (v : List ℕ) (r : Refusal) → refusal3 v ≡ Stopped r → (0 < lowest_fault (vol1_rules v)) × (r.first ≡ lowest_fault (vol1_rules v))
+fault_given : (v : List ℕ) (r : Refusal) → refusal3 v ≡ Err r → (0 < lowest_fault (vol1_rules v)) × (r.first ≡ lowest_fault (vol1_rules v))
 fault_given v r h =
     let t = (given_exactly (ltb 0 (lowest_fault (vol1_rules v))) (refuse 3 (lowest_fault (vol1_rules v))) r).0 h in
     (ltb-true 0 (lowest_fault (vol1_rules v)) t.0, ap (λ (x : Refusal). x.first) t.1)
 
-pub three_names : (image : List ℕ) (r : Refusal) → r.number ≡ 3 → judged image ≡ Refused r
+pub three_names : (image : List ℕ) (r : Refusal) → r.number ≡ 3 → judged image ≡ Err r
     → one_of (1 ∷ 5 ∷ 11 ∷ 38 ∷ 72 ∷ 76 ∷ 77 ∷ 80 ∷ 81 ∷ 83 ∷ 85 ∷ 89 ∷ []) r.first ≡ true
 three_names image r three j =
     let f = fault_given (vol1_of image) r (three_of_vol1 image r three j).2 in
@@ -58,7 +55,7 @@ only_one : (c x : ℕ) → one_of (x ∷ []) c ≡ true → c ≡ x
 unfolding one_of
 only_one c x h = eqb-true c x (by_test (eqb c x) (λ t. t) (λ f. absurd (true_not_false false (rw f at h) refl)))
 
-pub version_is : (image : List ℕ) (g : Geometry) → judged image ≡ Volume g → at (vol1_of image) 80 ≡ byte "3"
+pub version_is : (image : List ℕ) (g : Geometry) → judged image ≡ Ok g → at (vol1_of image) 80 ≡ byte "3"
 unfolding vol1_rules
 version_is image g j =
     let v = vol1_of image in
@@ -111,8 +108,8 @@ fault_80 : (v : List ℕ) → HoldBelow80 v → (at v 80 ≡ byte "3" → ⊥) �
 unfolding vol1_rules lowest_fault one_of
 fault_80 v (h1, (h5, (h11, (h38, (h72, (h76, (h77, _))))))) ne = rw (h1, h5, h11, h38, h72, h76, h77, ne_eqb (at v 80) 51 ne)
 
-pub three_at_80 : (image : List ℕ) → Exactly (judged image ≡ Refused (refuse 3 80))
-    ((refusal1 image ≡ Passed) × (refusal2 image ≡ Passed) × HoldBelow80 (vol1_of image) × (at (vol1_of image) 80 ≡ byte "3" → ⊥))
+pub three_at_80 : (image : List ℕ) → Exactly (judged image ≡ Err (refuse 3 80))
+    ((refusal1 image ≡ Ok tt) × (refusal2 image ≡ Ok tt) × HoldBelow80 (vol1_of image) × (at (vol1_of image) 80 ≡ byte "3" → ⊥))
 three_at_80 image = (
   (λ j.
       let s = three_of_vol1 image (refuse 3 80) refl j in
@@ -120,14 +117,14 @@ three_at_80 image = (
       (s.0, s.1, n.0, n.1)),
   (λ f.
       let e = fault_80 (vol1_of image) f.2 f.3 in
-      let here : refusal3 (vol1_of image) ≡ Stopped (refuse 3 80) =
+      let here : refusal3 (vol1_of image) ≡ Err (refuse 3 80) =
       (given_exactly (ltb 0 (lowest_fault (vol1_rules (vol1_of image)))) (refuse 3 (lowest_fault (vol1_rules (vol1_of image)))) (refuse 3 80)).1
       (lt-ltb 0 (lowest_fault (vol1_rules (vol1_of image))) (omega (arith, e)), ap (refuse 3) (sym e)) in
       (volume_first image (refuse 3 80)).1
       (record {
         earlier = refusal1 image ∷ refusal2 image ∷ [];
         later = drop 3 (volume_list image (volume_of image));
-        stands = ap (λ (c : Checked). refusal1 image ∷ refusal2 image ∷ c ∷ drop 3 (volume_list image (volume_of image))) here;
+        stands = ap (λ (c : Result ⊤ Refusal). refusal1 image ∷ refusal2 image ∷ c ∷ drop 3 (volume_list image (volume_of image))) here;
         none_earlier = (f.0, (f.1, tt));
       })),
 )

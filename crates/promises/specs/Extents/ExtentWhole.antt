@@ -1,7 +1,7 @@
 -- An extent has exactly the addresses from its start to its end, each once; and refusal 11, "extent shares a record with a lower slot's", is not given
 -- without such a record.
 -- Assumes nothing.
-use Rattle.std.specs.Prelude.{ℕ, zero, suc, ◌+◌, ◌-◌, ◌*◌, ◌<◌, ◌≤◌, ◌≡◌, refl, Bool, true, false, ◌&&◌, length, leb}
+use Rattle.std.specs.Prelude.{ℕ, zero, suc, ◌+◌, ◌-◌, ◌*◌, ◌<◌, ◌≤◌, ◌≡◌, refl, Bool, true, false, ◌&&◌, length, leb, Ok, Err}
 use Rattle.std.proofs.Common.{sym, ap, arith, le_refl, eq-or-lt_of_le, leb-true, le-leb}
 use mathlib.Core.List.{List, Memᴰ}
 use Rattle.standard.specs.Addresses.{legal, rank, stepped}
@@ -15,7 +15,6 @@ use Rattle.standard.specs.Judgement.{overlap, shares, refusal8to10, refusal11}
 use Rattle.standard.specs.declared.Geometry.{Geometry}
 use Rattle.standard.specs.declared.Address.{Address}
 use Rattle.standard.specs.declared.Refusal.{Refusal}
-use Rattle.standard.specs.declared.Checked.TheVariants.{Passed, Stopped}
 use Rattle.promises.specs.Ground.Basics.{either, lt_or_le, and_l, and_r}
 use Rattle.promises.specs.Images.AddressLaws.{digit_inj, parts, address_eq, rank_lt, step_rank, step_legal}
 use Rattle.promises.specs.Volumes.AcceptedLaws.{InRange, fault_none, extent_bounds, bounds_extent, no_overlap}
@@ -105,7 +104,7 @@ clash_exactly g h k r s = (
     go false e i a b = absurd (no_overlap g h k i e a b)
 
 -- REFUSAL 11 IS GIVEN ONLY WHERE A RECORD IS SHARED, with a lower slot's label. (The labels have passed 10: it comes first.)
-pub refused_shares : (g : Geometry) (image : List ℕ) (r : Refusal) → refusal8to10 g image ≡ Passed → refusal11 g image ≡ Stopped r
+pub refused_shares : (g : Geometry) (image : List ℕ) (r : Refusal) → refusal8to10 g image ≡ Ok tt → refusal11 g image ≡ Err r
     → (slot lower : ℕ) × (r ≡ refuse 11 slot) × (lower < slot) × (has_label g image slot ≡ true) × (has_label g image lower ≡ true)
     × (a : Address) × Memᴰ a (extent g (label_at g image slot)) × Memᴰ a (extent g (label_at g image lower))
 unfolding shares has_label

@@ -1,6 +1,6 @@
 -- The blocks of a file of an accepted volume are full: a block's content has the size that the label gives it.
 -- Assumes nothing.
-use Rattle.std.specs.Prelude.{ℕ, zero, suc, ◌+◌, ◌*◌, ◌/◌, ◌<◌, ◌≤◌, ◌≡◌, refl, Bool, true, false, cond, not, List, [], ◌∷◌, ltb, length, take, drop}
+use Rattle.std.specs.Prelude.{ℕ, zero, suc, ◌+◌, ◌*◌, ◌/◌, ◌<◌, ◌≤◌, ◌≡◌, refl, Bool, true, false, cond, not, List, [], ◌∷◌, ltb, length, take, drop, Ok}
 use Rattle.std.proofs.Common.{◌∙◌, length-append, length-drop, length-take-le, arith, div-mul-le_self, div-le_self, le-div_iff_mul-le, zero-mul, mul-le-mul_right}
 use borrow.Author.Tests.{ltb-true, not-false}
 use Rattle.standard.specs.Layout.{body_offset, image_length, body_at, label_at}
@@ -12,8 +12,6 @@ use Rattle.standard.specs.Judgement.{judged}
 use Rattle.standard.specs.Files.{good_records, records_to_block, count_before, good_before, data_end_at_start, data_end_in_extent, blocks_held, block_count, content_size, any_failed, bytes_of, block_of, open_refusal}
 use Rattle.standard.specs.declared.Geometry.{Geometry}
 use Rattle.standard.specs.declared.Address.{Address}
-use Rattle.standard.specs.declared.Checked.TheVariants.{Passed}
-use Rattle.standard.specs.declared.Judged.TheVariants.{Volume}
 use Rattle.promises.specs.Ground.Basics.{cond_elim}
 use Rattle.promises.specs.Ground.Lists.{Every, every_take}
 use Rattle.promises.specs.Images.AddressLaws.{Legal}
@@ -61,19 +59,19 @@ count_held g image h = go (data_end_at_start g h) (data_end_in_extent g h)
 
 -- the label of a file that may be opened has no fault, and its level is known
 module _ (g : Geometry) (image : List ℕ) where
-  pub open_label : (slot : ℕ) → open_refusal g image slot ≡ Passed → has_label g image slot ≡ true
+  pub open_label : (slot : ℕ) → open_refusal g image slot ≡ Ok tt → has_label g image slot ≡ true
   unfolding open_refusal
   open_label slot h =
       let (r13, _) = order_each _ h in
       not-false (has_label g image slot) (not_given (not (has_label g image slot)) _ r13)
 
-  pub open_level : (slot : ℕ) → open_refusal g image slot ≡ Passed → known_level (label_at g image slot) ≡ true
+  pub open_level : (slot : ℕ) → open_refusal g image slot ≡ Ok tt → known_level (label_at g image slot) ≡ true
   unfolding open_refusal
   open_level slot h =
       let (r13, (r14, _)) = order_each _ h in
       not-false (known_level (label_at g image slot)) (not_given (not (known_level (label_at g image slot))) _ r14)
 
-pub open_rules : (image : List ℕ) (g : Geometry) (slot : ℕ) → judged image ≡ Volume g → open_refusal g image slot ≡ Passed → Rules g (label_at g image slot)
+pub open_rules : (image : List ℕ) (g : Geometry) (slot : ℕ) → judged image ≡ Ok g → open_refusal g image slot ≡ Ok tt → Rules g (label_at g image slot)
 open_rules image g slot j ok = label_rules image g slot j (open_label g image slot ok) (open_level g image slot ok)
 
 -- B is 26 records of 1024 bytes at most, and a block takes one record at least, and no more than it has bytes
@@ -100,7 +98,7 @@ pub record SoundFile (g : Geometry) (image h : List ℕ) : Type 0 where
   pub in_range : InRange g h
   pub fits : block_length h ≤ records_to_block g h * g.P
 
-pub sound_file : (image : List ℕ) (g : Geometry) (slot : ℕ) → judged image ≡ Volume g → open_refusal g image slot ≡ Passed → SoundFile g image (label_at g image slot)
+pub sound_file : (image : List ℕ) (g : Geometry) (slot : ℕ) → judged image ≡ Ok g → open_refusal g image slot ≡ Ok tt → SoundFile g image (label_at g image slot)
 sound_file image g slot j ok =
     record {
       long = image_length_lem image g j;

@@ -2,7 +2,7 @@
 -- starts, slots and extents; and how a search passes an extent in one step.
 -- Assumes nothing.
 use Prim.Native.Nat.{ℕ, zero, suc, ◌+◌, ◌-◌, ◌<◌, ◌≤◌}
-use Rattle.std.specs.Prelude.{◌≡◌, Bool, not, ◌&&◌, List}
+use Rattle.std.specs.Prelude.{◌≡◌, Bool, not, ◌&&◌, List, Option, Some, None}
 use Rattle.std.proofs.Math.Path.{refl, subst}
 use Rattle.std.proofs.Common.{sym, ap, ◌∙◌, eq-or-lt_of_le}
 use Rattle.std.proofs.Math.Bool.{true, false, cond}
@@ -14,8 +14,6 @@ use Rattle.standard.specs.Labels.{start_of, end_of}
 use Rattle.standard.specs.Slots.{is_label, is_deleted, has_label}
 use Rattle.standard.specs.Free.{in_extent, taken}
 use Rattle.standard.specs.Creating.{free_run, run_from, lowest_run, deleted_from, lowest_deleted}
-use Rattle.standard.specs.declared.Run.{Run}
-use Rattle.standard.specs.declared.Run.TheVariants.{NoRun, RunAt}
 use Rattle.standard.specs.declared.Geometry.{Geometry}
 use Rattle.promises.specs.Ground.Basics.{either, lt_or_le, by_test, true_not_false, and_l, and_r, or_l, or_r, or_rest, never}
 use Rattle.promises.specs.Volumes.AcceptedLaws.{has_slot, extent_bounds, bounds_extent}
@@ -87,13 +85,13 @@ module _ (g : Geometry) (image : List ℕ) where
     abbrev First : ℕ → ℕ → ℕ → Type 0
     First left first i = (first ≤ i) × (i < first + left) × (free_run g image n i ≡ true) × ((k : ℕ) → first ≤ k → k < i → free_run g image n k ≡ false)
 
-    from_at : (left first i : ℕ) → run_from g image n left first ≡ RunAt i → First left first i
+    from_at : (left first i : ℕ) → run_from g image n left first ≡ Some i → First left first i
     unfolding run_from
     from_at zero first i h = never (cc)
     from_at (suc left) first i h = go (free_run g image n first) refl h (λ k. from_at left (first + 1) i k)
       where
-        go : (t : Bool) → free_run g image n first ≡ t → cond t (RunAt first) (run_from g image n left (first + 1)) ≡ RunAt i
-            → (run_from g image n left (first + 1) ≡ RunAt i → First left (first + 1) i) → First (suc left) first i
+        go : (t : Bool) → free_run g image n first ≡ t → cond t (Some first) (run_from g image n left (first + 1)) ≡ Some i
+            → (run_from g image n left (first + 1) ≡ Some i → First left (first + 1) i) → First (suc left) first i
         go true e k ih =
             let p : first ≡ i = cc in
             subst (λ (s : ℕ). First (suc left) first s) p (omega arith, omega arith, e, (λ k l m. absurd (omega arith)))
@@ -107,13 +105,13 @@ module _ (g : Geometry) (image : List ℕ) where
                   (λ (x : first < k). m.3 k (omega arith) u)),
             )
 
-    from_none : (left first : ℕ) → run_from g image n left first ≡ NoRun → (k : ℕ) → first ≤ k → k < first + left → free_run g image n k ≡ false
+    from_none : (left first : ℕ) → run_from g image n left first ≡ None → (k : ℕ) → first ≤ k → k < first + left → free_run g image n k ≡ false
     unfolding run_from
     from_none zero first h k l m = absurd (omega arith)
     from_none (suc left) first h k l m = go (free_run g image n first) refl h (λ y u v. from_none left (first + 1) y k u v)
       where
-        go : (t : Bool) → free_run g image n first ≡ t → cond t (RunAt first) (run_from g image n left (first + 1)) ≡ NoRun
-            → (run_from g image n left (first + 1) ≡ NoRun → first + 1 ≤ k → k < first + 1 + left → free_run g image n k ≡ false) → free_run g image n k ≡ false
+        go : (t : Bool) → free_run g image n first ≡ t → cond t (Some first) (run_from g image n left (first + 1)) ≡ None
+            → (run_from g image n left (first + 1) ≡ None → first + 1 ≤ k → k < first + 1 + left → free_run g image n k ≡ false) → free_run g image n k ≡ false
         go true e y ih = never (cc)
         go false e y ih =
             either (eq-or-lt_of_le l)
@@ -121,11 +119,11 @@ module _ (g : Geometry) (image : List ℕ) where
             (λ (x : first < k). ih y (omega arith) (omega arith))
 
     -- a search goes on from a start that is no run, past so many of them, and stops at a run
-    pub run_here : (left i : ℕ) → free_run g image n i ≡ true → run_from g image n (suc left) i ≡ RunAt i
+    pub run_here : (left i : ℕ) → free_run g image n i ≡ true → run_from g image n (suc left) i ≡ Some i
     unfolding run_from
     run_here left i h = rw h
 
-    pub run_none : (i : ℕ) → run_from g image n 0 i ≡ NoRun
+    pub run_none : (i : ℕ) → run_from g image n 0 i ≡ None
     unfolding run_from
     run_none i = refl
 
@@ -203,7 +201,7 @@ module _ (g : Geometry) (image : List ℕ) where
     pub run : Free n i
     pub lowest : (k : ℕ) → k < i → Free n k → ⊥
 
-  pub lowest_run_lem : (n i : ℕ) → lowest_run g image n ≡ RunAt i → Lowest n i
+  pub lowest_run_lem : (n i : ℕ) → lowest_run g image n ≡ Some i → Lowest n i
   unfolding lowest_run
   lowest_run_lem n i h =
       let f = from_at n (suc (address_count g) - n) 0 i h in
@@ -212,29 +210,29 @@ module _ (g : Geometry) (image : List ℕ) where
         lowest = λ k l r. true_not_false (free_run g image n k) (run_free n k r) (f.3 k (omega arith) l);
       }
 
-  pub no_run : (n : ℕ) → lowest_run g image n ≡ NoRun → (i : ℕ) → Free n i → ⊥
+  pub no_run : (n : ℕ) → lowest_run g image n ≡ None → (i : ℕ) → Free n i → ⊥
   unfolding lowest_run
   no_run n h i r =
       true_not_false (free_run g image n i) (run_free n i r)
       (from_none n (suc (address_count g) - n) 0 h i (omega arith) (omega (arith, r.inside)))
 
-  room_is : (n : ℕ) (r : Run) → lowest_run g image n ≡ r → ((i : ℕ) → Free n i → ⊥) → lowest_run g image n ≡ NoRun
-  room_is n NoRun e h = e
-  room_is n (RunAt i) e h = absurd (h i (lowest_run_lem n i e).run)
+  room_is : (n : ℕ) (r : Option ℕ) → lowest_run g image n ≡ r → ((i : ℕ) → Free n i → ⊥) → lowest_run g image n ≡ None
+  room_is n None e h = e
+  room_is n (Some i) e h = absurd (h i (lowest_run_lem n i e).run)
 
-  lowest_is : (n i : ℕ) (r : Run) → lowest_run g image n ≡ r → Lowest n i → lowest_run g image n ≡ RunAt i
-  lowest_is n i NoRun e w = absurd (no_run n e i w.run)
-  lowest_is n i (RunAt k) e w =
+  lowest_is : (n i : ℕ) (r : Option ℕ) → lowest_run g image n ≡ r → Lowest n i → lowest_run g image n ≡ Some i
+  lowest_is n i None e w = absurd (no_run n e i w.run)
+  lowest_is n i (Some k) e w =
       let v = lowest_run_lem n k e in
       either (lt_or_le k i)
       (λ (l : k < i). absurd (w.lowest k l v.run))
       (λ (m : i ≤ k).
-      either (eq-or-lt_of_le m) (λ (q : i ≡ k). e ∙ ap RunAt (sym q)) (λ (l : i < k). absurd (v.lowest i l w.run)))
+      either (eq-or-lt_of_le m) (λ (q : i ≡ k). e ∙ ap Some (sym q)) (λ (l : i < k). absurd (v.lowest i l w.run)))
 
-  pub lowest_run_exactly : (n i : ℕ) → Exactly (lowest_run g image n ≡ RunAt i) (Lowest n i)
+  pub lowest_run_exactly : (n i : ℕ) → Exactly (lowest_run g image n ≡ Some i) (Lowest n i)
   lowest_run_exactly n i = (lowest_run_lem n i, lowest_is n i (lowest_run g image n) refl)
 
-  pub no_run_exactly : (n : ℕ) → Exactly (lowest_run g image n ≡ NoRun) ((i : ℕ) → Free n i → ⊥)
+  pub no_run_exactly : (n : ℕ) → Exactly (lowest_run g image n ≡ None) ((i : ℕ) → Free n i → ⊥)
   no_run_exactly n = (no_run n, room_is n (lowest_run g image n) refl)
 
   -- THERE IS NO RUN EXACTLY IF every n addresses in a row have one in some label's extent
@@ -252,7 +250,7 @@ module _ (g : Geometry) (image : List ℕ) where
       let t = taken_by g image m.0 (slot_count g) m.3 in
       record { address = m.0; low = m.1; high = m.2; slot = t.0; has = has_label_lem g image t.0 t.1 t.2 t.3.0; inside = t.3.1 }
 
-  pub blocked_exactly : (n : ℕ) → Exactly (lowest_run g image n ≡ NoRun) ((i : ℕ) → i + n ≤ address_count g → Blocked n i)
+  pub blocked_exactly : (n : ℕ) → Exactly (lowest_run g image n ≡ None) ((i : ℕ) → i + n ≤ address_count g → Blocked n i)
   blocked_exactly n = (
     (λ h i l.
         by_test (free_run g image n i) (λ f. absurd (no_run n h i (free_run_lem n i l f))) (λ f. run_blocked n i f)),
@@ -350,13 +348,13 @@ module _ (g : Geometry) (image : List ℕ) where
   -- no extent meets them: found
   pub room_here : (n start : ℕ) → start + n ≤ address_count g
       → ((slot : ℕ) → has_label g image slot ≡ true → rank g (start_of (label_at g image slot)) < start + n → start ≤ rank g (end_of (label_at g image slot)) → ⊥)
-      → Searched n start → lowest_run g image n ≡ RunAt start
+      → Searched n start → lowest_run g image n ≡ Some start
   room_here n start l f h =
       let e : suc (address_count g) - n - start ≡ suc (address_count g - n - start) = omega arith in
       h ∙ ap (λ (x : ℕ). run_from g image n x start) e ∙ run_here n (address_count g - n - start) start (none_meets n start f)
 
   -- too few addresses are left
-  pub room_full : (n start : ℕ) → address_count g < start + n → Searched n start → lowest_run g image n ≡ NoRun
+  pub room_full : (n start : ℕ) → address_count g < start + n → Searched n start → lowest_run g image n ≡ None
   room_full n start l h =
       let e : suc (address_count g) - n - start ≡ 0 = omega arith in
       h ∙ ap (λ (x : ℕ). run_from g image n x start) e ∙ run_none n start

@@ -2,7 +2,7 @@
 -- one through 8, 9, 10", and "In all three labels a fault is reported at its field's first position, the lowest first."
 -- Assumes nothing.
 use Prim.Native.Nat.{ℕ, zero, suc, ◌+◌, ◌-◌, ◌<◌, ◌≤◌}
-use Rattle.std.specs.Prelude.{◌≡◌, Bool, not, ◌&&◌, ◌||◌, ◌⊎◌, length, eqb}
+use Rattle.std.specs.Prelude.{◌≡◌, Bool, not, ◌&&◌, ◌||◌, ◌⊎◌, length, eqb, Result, Ok, Err, ⊤}
 use Rattle.std.proofs.Math.Path.{refl, ap, subst}
 use Rattle.std.proofs.Common.{sym, ◌∙◌, inl, inr, arith, eq-or-lt_of_le, ltb-true, lt-ltb}
 use Rattle.std.proofs.Math.Bool.{true, false, cond}
@@ -24,8 +24,6 @@ use Rattle.standard.specs.Writing.{wrong_length, lengths_from}
 use Rattle.standard.specs.declared.Geometry.{Geometry}
 use Rattle.standard.specs.declared.Address.{Address}
 use Rattle.standard.specs.declared.Refusal.{Refusal}
-use Rattle.standard.specs.declared.Checked.{Checked}
-use Rattle.standard.specs.declared.Checked.TheVariants.{Passed, Stopped}
 use Rattle.promises.specs.Ground.Basics.{either, by_test, true_not_false, and_l, and_r, or_right, or_rest, never}
 use Rattle.promises.specs.Ground.Lists.{Every}
 use Rattle.promises.specs.Volumes.Judging.{numbered, none_below, readable}
@@ -51,18 +49,18 @@ first_map first left Is Not Is' Not' f h x =
       none_lower = λ k l m. h k l (omega (arith, x.high)) (x.none_lower k l m);
     }
 
-abbrev Walked : (ℕ → Checked) → ℕ → ℕ → Refusal → Type 0
-Walked one left first r = FirstIn first left (λ n. one n ≡ Stopped r) (λ n. one n ≡ Passed)
+abbrev Walked : (ℕ → Result ⊤ Refusal) → ℕ → ℕ → Refusal → Type 0
+Walked one left first r = FirstIn first left (λ n. one n ≡ Err r) (λ n. one n ≡ Ok tt)
 
 -- a walk that asks one number after the other
-module _ (run : ℕ → ℕ → Checked) (one : ℕ → Checked) (none : (n : ℕ) → run zero n ≡ Passed)
+module _ (run : ℕ → ℕ → Result ⊤ Refusal) (one : ℕ → Result ⊤ Refusal) (none : (n : ℕ) → run zero n ≡ Ok tt)
     (more : (left n : ℕ) → run (suc left) n ≡ or_else (one n) (run left (n + 1))) where
-  here_or_on : (left first : ℕ) (r : Refusal) (c : Checked) → one first ≡ c → or_else c (run left (first + 1)) ≡ Stopped r
-      → (run left (first + 1) ≡ Stopped r → Walked one left (first + 1) r) → Walked one (suc left) first r
+  here_or_on : (left first : ℕ) (r : Refusal) (c : Result ⊤ Refusal) → one first ≡ c → or_else c (run left (first + 1)) ≡ Err r
+      → (run left (first + 1) ≡ Err r → Walked one left (first + 1) r) → Walked one (suc left) first r
   unfolding or_else
-  here_or_on left first r (Stopped q) e h ih =
+  here_or_on left first r (Err q) e h ih =
       record { place = first; low = omega arith; high = omega arith; is_so = e ∙ h; none_lower = λ k l m. absurd (omega arith) }
-  here_or_on left first r Passed e h ih =
+  here_or_on left first r (Ok _) e h ih =
       let f = ih h in
       record {
         place = f.place;
@@ -70,22 +68,22 @@ module _ (run : ℕ → ℕ → Checked) (one : ℕ → Checked) (none : (n : �
         high = omega (arith, f.high);
         is_so = f.is_so;
         none_lower = λ k l m. either (eq-or-lt_of_le l)
-            (λ (x : first ≡ k). subst (λ (n : ℕ). one n ≡ Passed) x e)
+            (λ (x : first ≡ k). subst (λ (n : ℕ). one n ≡ Ok tt) x e)
             (λ (x : first < k). f.none_lower k (omega arith) m);
       }
 
-  run_first : (left first : ℕ) (r : Refusal) → run left first ≡ Stopped r → Walked one left first r
+  run_first : (left first : ℕ) (r : Refusal) → run left first ≡ Err r → Walked one left first r
   run_first zero first r h = let z = none first in never (cc)
   run_first (suc left) first r h =
       here_or_on left first r (one first) refl (sym (more left first) ∙ h) (λ k. run_first left (first + 1) r k)
 
-  first_run : (left first : ℕ) (r : Refusal) → Walked one left first r → run left first ≡ Stopped r
+  first_run : (left first : ℕ) (r : Refusal) → Walked one left first r → run left first ≡ Err r
   unfolding or_else
   first_run zero first r f = absurd (omega (arith, f.low, f.high))
   first_run (suc left) first r f =
       more left first ∙ either (eq-or-lt_of_le f.low)
       (λ (x : first ≡ f.place).
-      let e : one first ≡ Stopped r = subst (λ (n : ℕ). one n ≡ Stopped r) (sym x) f.is_so in
+      let e : one first ≡ Err r = subst (λ (n : ℕ). one n ≡ Err r) (sym x) f.is_so in
       rw e)
       (λ (x : first < f.place).
       let e = f.none_lower first (omega arith) x in
@@ -117,13 +115,13 @@ module _ {A : Type 0} (test : A → Bool) (ref : ℕ → A → Refusal) where
         none_earlier = (e, f.none_earlier);
       }
 
-  module _ (run : ℕ → List A → Checked) (none : (i : ℕ) → run i [] ≡ Passed)
-      (more : (i : ℕ) (a : A) (xs : List A) → run i (a ∷ xs) ≡ cond (test a) (Stopped (ref i a)) (run (i + 1) xs)) where
-    list_first : (xs : List A) (i : ℕ) (r : Refusal) → run i xs ≡ Stopped r → Listed i r xs
+  module _ (run : ℕ → List A → Result ⊤ Refusal) (none : (i : ℕ) → run i [] ≡ Ok tt)
+      (more : (i : ℕ) (a : A) (xs : List A) → run i (a ∷ xs) ≡ cond (test a) (Err (ref i a)) (run (i + 1) xs)) where
+    list_first : (xs : List A) (i : ℕ) (r : Refusal) → run i xs ≡ Err r → Listed i r xs
     list_first [] i r h = let z = none i in never (cc)
     list_first (a ∷ xs) i r h = go (test a) refl (sym (more i a xs) ∙ h) (λ k. list_first xs (i + 1) r k)
       where
-        go : (t : Bool) → test a ≡ t → cond t (Stopped (ref i a)) (run (i + 1) xs) ≡ Stopped r → (run (i + 1) xs ≡ Stopped r → Listed (i + 1) r xs) → Listed i r (a ∷ xs)
+        go : (t : Bool) → test a ≡ t → cond t (Err (ref i a)) (run (i + 1) xs) ≡ Err r → (run (i + 1) xs ≡ Err r → Listed (i + 1) r xs) → Listed i r (a ∷ xs)
         go true e k ih =
             let z : i ≡ i + 0 = omega arith in
             let q : ref i a ≡ r = cc in
@@ -131,44 +129,44 @@ module _ {A : Type 0} (test : A → Bool) (ref : ℕ → A → Refusal) where
         go false e k ih = one_later i r a xs e (ih k)
 
     behind : (earlier later : List A) (a : A) (i : ℕ) (r : Refusal) → Every (λ x. test x ≡ false) earlier → test a ≡ true → r ≡ ref (i + length earlier) a
-        → run i (earlier ++ (a ∷ later)) ≡ Stopped r
+        → run i (earlier ++ (a ∷ later)) ≡ Err r
     behind [] later a i r h e q =
         let z : i + 0 ≡ i = omega arith in
-        more i a later ∙ rw e (ap Stopped (sym (q ∙ ap (λ (m : ℕ). ref m a) z)))
+        more i a later ∙ rw e (ap Err (sym (q ∙ ap (λ (m : ℕ). ref m a) z)))
     behind (x ∷ earlier) later a i r h e q =
         let n : i + suc (length earlier) ≡ (i + 1) + length earlier = omega arith in
         more i x (earlier ++ (a ∷ later)) ∙ rw h.0 (behind earlier later a (i + 1) r h.1 e (q ∙ ap (λ (m : ℕ). ref m a) n))
 
-    first_list : (xs : List A) (i : ℕ) (r : Refusal) → Listed i r xs → run i xs ≡ Stopped r
+    first_list : (xs : List A) (i : ℕ) (r : Refusal) → Listed i r xs → run i xs ≡ Err r
     first_list xs i r f = ap (run i) f.stands ∙ behind f.earlier f.later f.it i r f.none_earlier f.is_so.0 f.is_so.1
 
-    listed : (xs : List A) (i : ℕ) (r : Refusal) → Exactly (run i xs ≡ Stopped r) (Listed i r xs)
+    listed : (xs : List A) (i : ℕ) (r : Refusal) → Exactly (run i xs ≡ Err r) (Listed i r xs)
     listed xs i r = (list_first xs i r, first_list xs i r)
 
 -- ---- a test that stops a walk
-stop_here : (t : Bool) (r : Refusal) (c : Checked) → cond t (Stopped r) c ≡ or_else (given_when t r) c
+stop_here : (t : Bool) (r : Refusal) (c : Result ⊤ Refusal) → cond t (Err r) c ≡ or_else (given_when t r) c
 unfolding or_else given_when
 stop_here true r c = refl
 stop_here false r c = refl
 
-stop_else : (t : Bool) (r : Refusal) (c : Checked) → cond t c (Stopped r) ≡ or_else (given_when (not t) r) c
+stop_else : (t : Bool) (r : Refusal) (c : Result ⊤ Refusal) → cond t c (Err r) ≡ or_else (given_when (not t) r) c
 unfolding or_else given_when
 stop_else true r c = refl
 stop_else false r c = refl
 
-pub given_exactly : (t : Bool) (q r : Refusal) → Exactly (given_when t q ≡ Stopped r) ((t ≡ true) × (r ≡ q))
+pub given_exactly : (t : Bool) (q r : Refusal) → Exactly (given_when t q ≡ Err r) ((t ≡ true) × (r ≡ q))
 unfolding given_when
-given_exactly t q r = ((λ h. go t h), (λ f. rw f.0 (ap Stopped (sym f.1))))
+given_exactly t q r = ((λ h. go t h), (λ f. rw f.0 (ap Err (sym f.1))))
   where
-    go : (u : Bool) → cond u (Stopped q) Passed ≡ Stopped r → (u ≡ true) × (r ≡ q)
+    go : (u : Bool) → cond {A = Result ⊤ Refusal} u (Err q) (Ok tt) ≡ Err r → (u ≡ true) × (r ≡ q)
     go true h = (refl, (cc))
     go false h = never (cc)
 
-pub not_given_exactly : (t : Bool) (q : Refusal) → Exactly (given_when t q ≡ Passed) (t ≡ false)
+pub not_given_exactly : (t : Bool) (q : Refusal) → Exactly (given_when t q ≡ Ok tt) (t ≡ false)
 unfolding given_when
 not_given_exactly t q = ((λ h. go t h), (λ f. rw f))
   where
-    go : (u : Bool) → cond u (Stopped q) Passed ≡ Passed → u ≡ false
+    go : (u : Bool) → cond {A = Result ⊤ Refusal} u (Err q) (Ok tt) ≡ Ok tt → u ≡ false
     go true h = never (cc)
     go false h = refl
 
@@ -179,12 +177,12 @@ not_of_false : (t : Bool) → t ≡ false → not t ≡ true
 not_of_false t e = rw e
 
 -- a walk of tests
-module _ (test : ℕ → Bool) (ref : ℕ → Refusal) (run : ℕ → ℕ → Checked) (none : (n : ℕ) → run zero n ≡ Passed)
+module _ (test : ℕ → Bool) (ref : ℕ → Refusal) (run : ℕ → ℕ → Result ⊤ Refusal) (none : (n : ℕ) → run zero n ≡ Ok tt)
     (more : (left n : ℕ) → run (suc left) n ≡ or_else (given_when (test n) (ref n)) (run left (n + 1))) where
   walked : (left first : ℕ) (r : Refusal)
-      → Exactly (run left first ≡ Stopped r) (FirstIn first left (λ n. (test n ≡ true) × (r ≡ ref n)) (λ n. test n ≡ false))
+      → Exactly (run left first ≡ Err r) (FirstIn first left (λ n. (test n ≡ true) × (r ≡ ref n)) (λ n. test n ≡ false))
   walked left first r = (
-    (λ h. first_map first left (λ n. given_when (test n) (ref n) ≡ Stopped r) (λ n. given_when (test n) (ref n) ≡ Passed) _ _
+    (λ h. first_map first left (λ n. given_when (test n) (ref n) ≡ Err r) (λ n. given_when (test n) (ref n) ≡ Ok tt) _ _
         (λ n. (given_exactly (test n) (ref n) r).0) (λ n l m. (not_given_exactly (test n) (ref n)).0)
         (run_first run (λ n. given_when (test n) (ref n)) none more left first r h)),
     (λ f. first_run run (λ n. given_when (test n) (ref n)) none more left first r
@@ -194,7 +192,7 @@ module _ (test : ℕ → Bool) (ref : ℕ → Refusal) (run : ℕ → ℕ → Ch
 
 -- 6: the first sector whose kind is not one of its three
 module _ (g : Geometry) (image : List ℕ) where
-  kinds_none : (n : ℕ) → kinds_from g image zero n ≡ Passed
+  kinds_none : (n : ℕ) → kinds_from g image zero n ≡ Ok tt
   unfolding kinds_from
   kinds_none n = refl
 
@@ -203,7 +201,7 @@ module _ (g : Geometry) (image : List ℕ) where
   kinds_more left n = stop_else (legal_kind g image n) (refuse 6 n) (kinds_from g image left (n + 1))
 
   pub place_6 : (r : Refusal)
-      → Exactly (refusal6 g image ≡ Stopped r)
+      → Exactly (refusal6 g image ≡ Err r)
       (FirstIn 0 (sector_count g) (λ n. (legal_kind g image n ≡ false) × (r ≡ refuse 6 n)) (λ n. legal_kind g image n ≡ true))
   place_6 r =
       let w = walked (λ n. not (legal_kind g image n)) (refuse 6) (kinds_from g image) kinds_none kinds_more (sector_count g) 0 r in (
@@ -214,32 +212,32 @@ module _ (g : Geometry) (image : List ℕ) where
       )
 
   -- 17: the first record of a list of them
-  wrong_none : (i : ℕ) → wrong_among g image [] ≡ Passed
+  wrong_none : (i : ℕ) → wrong_among g image [] ≡ Ok tt
   unfolding wrong_among
   wrong_none i = refl
 
   wrong_more : (i : ℕ) (a : Address) (xs : List Address)
-      → wrong_among g image (a ∷ xs) ≡ cond (is_wrong g image a) (Stopped (refuse 17 (ordinal g a))) (wrong_among g image xs)
+      → wrong_among g image (a ∷ xs) ≡ cond (is_wrong g image a) (Err (refuse 17 (ordinal g a))) (wrong_among g image xs)
   unfolding wrong_among
   wrong_more i a xs = refl
 
   pub place_17 : (xs : List Address) (r : Refusal)
-      → Exactly (wrong_among g image xs ≡ Stopped r)
+      → Exactly (wrong_among g image xs ≡ Err r)
       (FirstOf (λ n a. (is_wrong g image a ≡ true) × (r ≡ refuse 17 (ordinal g a))) (λ a. is_wrong g image a ≡ false) xs)
   place_17 xs r = listed (is_wrong g image) (λ i a. refuse 17 (ordinal g a)) (λ i ys. wrong_among g image ys) wrong_none wrong_more xs 0 r
 
 -- 26: the first record of a length that the file does not take, counted from 0
 module _ (h : List ℕ) where
-  lengths_none : (i : ℕ) → lengths_from h i [] ≡ Passed
+  lengths_none : (i : ℕ) → lengths_from h i [] ≡ Ok tt
   unfolding lengths_from
   lengths_none i = refl
 
-  lengths_more : (i n : ℕ) (xs : List ℕ) → lengths_from h i (n ∷ xs) ≡ cond (wrong_length h n) (Stopped (refuse 26 i)) (lengths_from h (i + 1) xs)
+  lengths_more : (i n : ℕ) (xs : List ℕ) → lengths_from h i (n ∷ xs) ≡ cond (wrong_length h n) (Err (refuse 26 i)) (lengths_from h (i + 1) xs)
   unfolding lengths_from
   lengths_more i n xs = refl
 
   pub place_26 : (i : ℕ) (lengths : List ℕ) (r : Refusal)
-      → Exactly (lengths_from h i lengths ≡ Stopped r)
+      → Exactly (lengths_from h i lengths ≡ Err r)
       (FirstOf (λ before n. (wrong_length h n ≡ true) × (r ≡ refuse 26 (i + before))) (λ n. wrong_length h n ≡ false) lengths)
   place_26 i lengths r = listed (wrong_length h) (λ k n. refuse 26 k) (lengths_from h) lengths_none lengths_more lengths i r
 
@@ -297,7 +295,7 @@ module _ (ref : ℕ → Refusal) where
   position_there (y ∷ earlier) later x n = position_there earlier later x (and_r (ltb 0 y.position) _ n)
 
   fault_named : (rows : List Row) (r : Refusal) → numbered rows ≡ true
-      → Exactly (given_when (ltb 0 (lowest_fault rows)) (ref (lowest_fault rows)) ≡ Stopped r) (FaultNamed r rows)
+      → Exactly (given_when (ltb 0 (lowest_fault rows)) (ref (lowest_fault rows)) ≡ Err r) (FaultNamed r rows)
   fault_named rows r n = (
     (λ h.
         let t = (given_exactly (ltb 0 (lowest_fault rows)) (ref (lowest_fault rows)) r).0 h in
@@ -319,16 +317,16 @@ module _ (ref : ℕ → Refusal) where
         (given_exactly (ltb 0 (lowest_fault rows)) (ref (lowest_fault rows)) r).1 (lt-ltb 0 (lowest_fault rows) (omega arith), f.is_so.1 ∙ ap ref (sym e))),
   )
 
-pub place_3 : (v : List ℕ) (r : Refusal) → Exactly (refusal3 v ≡ Stopped r) (FaultNamed (refuse 3) r (vol1_rules v))
+pub place_3 : (v : List ℕ) (r : Refusal) → Exactly (refusal3 v ≡ Err r) (FaultNamed (refuse 3) r (vol1_rules v))
 unfolding vol1_rules
 place_3 v r = fault_named (refuse 3) (vol1_rules v) r refl
 
-pub place_7 : (L : ℕ) (e : List ℕ) (r : Refusal) → Exactly (refusal7 L e ≡ Stopped r) (FaultNamed (refuse 7) r (ermap_rules L e))
+pub place_7 : (L : ℕ) (e : List ℕ) (r : Refusal) → Exactly (refusal7 L e ≡ Err r) (FaultNamed (refuse 7) r (ermap_rules L e))
 unfolding ermap_rules
 place_7 L e r = fault_named (refuse 7) (ermap_rules L e) r refl
 
 label_place : (g : Geometry) (h : List ℕ) (slot : ℕ) (r : Refusal)
-    → Exactly (given_when (ltb 0 (label_fault g h)) (refuse_at 10 slot (label_fault g h)) ≡ Stopped r) (FaultNamed (refuse_at 10 slot) r (hdr1_rules g h))
+    → Exactly (given_when (ltb 0 (label_fault g h)) (refuse_at 10 slot (label_fault g h)) ≡ Err r) (FaultNamed (refuse_at 10 slot) r (hdr1_rules g h))
 unfolding label_fault hdr1_rules
 label_place g h slot r = fault_named (refuse_at 10 slot) (hdr1_rules g h) r refl
 
@@ -338,13 +336,13 @@ pub data SlotFault (g : Geometry) (image : List ℕ) (slot : ℕ) (r : Refusal) 
   neither : is_unreadable g image slot ≡ false → is_label g image slot ≡ false → is_deleted g image slot ≡ false → r ≡ refuse 9 slot → SlotFault g image slot r
   broken : is_label g image slot ≡ true → FaultNamed (refuse_at 10 slot) r (hdr1_rules g (label_at g image slot)) → SlotFault g image slot r
 
-last : (c : Checked) (r : Refusal) → in_order (c ∷ []) ≡ Stopped r → c ≡ Stopped r
+last : (c : Result ⊤ Refusal) (r : Refusal) → in_order (c ∷ []) ≡ Err r → c ≡ Err r
 unfolding in_order
-last Passed r h = never (cc)
-last (Stopped q) r h = h
+last (Ok _) r h = never (cc)
+last (Err q) r h = h
 
 module _ (g : Geometry) (image : List ℕ) where
-  pub slot_fault : (slot : ℕ) (r : Refusal) → Exactly (slot_refusal g image slot ≡ Stopped r) (SlotFault g image slot r)
+  pub slot_fault : (slot : ℕ) (r : Refusal) → Exactly (slot_refusal g image slot ≡ Err r) (SlotFault g image slot r)
   unfolding slot_refusal in_order given_when
   slot_fault slot r = ((λ h. go (is_unreadable g image slot) (is_label g image slot) (is_deleted g image slot) refl refl refl h), back)
     where
@@ -352,7 +350,7 @@ module _ (g : Geometry) (image : List ℕ) where
           → in_order
           (given_when t (refuse 8 slot) ∷ given_when (not (u || v)) (refuse 9 slot)
           ∷ given_when (u && ltb 0 (label_fault g (label_at g image slot))) (refuse_at 10 slot (label_fault g (label_at g image slot))) ∷ [])
-          ≡ Stopped r → SlotFault g image slot r
+          ≡ Err r → SlotFault g image slot r
       go true u v a b c h = unreadable a (cc)
       go false false false a b c h = neither a b c (cc)
       go false false true a b c h = never (cc)
@@ -360,14 +358,14 @@ module _ (g : Geometry) (image : List ℕ) where
           let ten = given_when (ltb 0 (label_fault g (label_at g image slot))) (refuse_at 10 slot (label_fault g (label_at g image slot))) in
           broken b ((label_place g (label_at g image slot) slot r).0 (last ten r h))
 
-      back : SlotFault g image slot r → slot_refusal g image slot ≡ Stopped r
-      back (unreadable a e) = rw a (ap Stopped (sym e))
-      back (neither a b c e) = rw (a, b, c) (ap Stopped (sym e))
+      back : SlotFault g image slot r → slot_refusal g image slot ≡ Err r
+      back (unreadable a e) = rw a (ap Err (sym e))
+      back (neither a b c e) = rw (a, b, c) (ap Err (sym e))
       back (broken b f) =
           let t = (label_place g (label_at g image slot) slot r).1 f in
-          rw (readable g image slot b, b) (ap (λ (c : Checked). in_order (c ∷ [])) t)
+          rw (readable g image slot b, b) (ap (λ (c : Result ⊤ Refusal). in_order (c ∷ [])) t)
 
-  slots_none : (n : ℕ) → slots_from g image zero n ≡ Passed
+  slots_none : (n : ℕ) → slots_from g image zero n ≡ Ok tt
   unfolding slots_from
   slots_none n = refl
 
@@ -376,21 +374,21 @@ module _ (g : Geometry) (image : List ℕ) where
   slots_more left n = refl
 
   pub slots_first : (left first : ℕ) (r : Refusal)
-      → Exactly (slots_from g image left first ≡ Stopped r)
-      (FirstIn first left (λ slot. slot_refusal g image slot ≡ Stopped r) (λ slot. slot_refusal g image slot ≡ Passed))
+      → Exactly (slots_from g image left first ≡ Err r)
+      (FirstIn first left (λ slot. slot_refusal g image slot ≡ Err r) (λ slot. slot_refusal g image slot ≡ Ok tt))
   slots_first left first r = (
     run_first (slots_from g image) (slot_refusal g image) slots_none slots_more left first r,
     first_run (slots_from g image) (slot_refusal g image) slots_none slots_more left first r,
   )
 
   pub place_8_to_10 : (r : Refusal)
-      → Exactly (refusal8to10 g image ≡ Stopped r)
-      (FirstIn 1 (slot_count g) (λ slot. SlotFault g image slot r) (λ slot. slot_refusal g image slot ≡ Passed))
+      → Exactly (refusal8to10 g image ≡ Err r)
+      (FirstIn 1 (slot_count g) (λ slot. SlotFault g image slot r) (λ slot. slot_refusal g image slot ≡ Ok tt))
   place_8_to_10 r =
       let w = slots_first (slot_count g) 1 r in (
-        (λ h. first_map 1 (slot_count g) (λ slot. slot_refusal g image slot ≡ Stopped r) (λ slot. slot_refusal g image slot ≡ Passed) _ _
+        (λ h. first_map 1 (slot_count g) (λ slot. slot_refusal g image slot ≡ Err r) (λ slot. slot_refusal g image slot ≡ Ok tt) _ _
             (λ n. (slot_fault n r).0) (λ n l m x. x) (w.0 h)),
-        (λ f. w.1 (first_map 1 (slot_count g) (λ slot. SlotFault g image slot r) (λ slot. slot_refusal g image slot ≡ Passed) _ _
+        (λ f. w.1 (first_map 1 (slot_count g) (λ slot. SlotFault g image slot r) (λ slot. slot_refusal g image slot ≡ Ok tt) _ _
             (λ n. (slot_fault n r).1) (λ n l m x. x) f)),
       )
 
@@ -431,7 +429,7 @@ module _ (clash : ℕ → ℕ → Bool) where
         (λ e. e)),
   )
 
-  clashes_none : (number n : ℕ) → clashes_from clash number zero n ≡ Passed
+  clashes_none : (number n : ℕ) → clashes_from clash number zero n ≡ Ok tt
   unfolding clashes_from
   clashes_none number n = refl
 
@@ -441,7 +439,7 @@ module _ (clash : ℕ → ℕ → Bool) where
   clashes_more number left n = stop_here (clashes_below clash n (n - 1)) (refuse number n) (clashes_from clash number left (n + 1))
 
   pub clashes_first : (number left first : ℕ) (r : Refusal)
-      → Exactly (clashes_from clash number left first ≡ Stopped r)
+      → Exactly (clashes_from clash number left first ≡ Err r)
       (FirstIn first left (λ slot. (clashes_below clash slot (slot - 1) ≡ true) × (r ≡ refuse number slot)) (λ slot. clashes_below clash slot (slot - 1) ≡ false))
   clashes_first number left first r =
       walked (λ n. clashes_below clash n (n - 1)) (refuse number) (clashes_from clash number) (clashes_none number) (clashes_more number) left first r
@@ -452,7 +450,7 @@ module _ (clash : ℕ → ℕ → Bool) where
       FirstIn 1 count (λ slot. ClashBelow clash slot (slot - 1) × (r ≡ refuse number slot))
       (λ slot. (lower : ℕ) → 1 ≤ lower → lower ≤ slot - 1 → clash slot lower ≡ false)
 
-  pub lowest_clash : (number count : ℕ) (r : Refusal) → Exactly (clashes_from clash number count 1 ≡ Stopped r) (LowestClash number count r)
+  pub lowest_clash : (number count : ℕ) (r : Refusal) → Exactly (clashes_from clash number count 1 ≡ Err r) (LowestClash number count r)
   lowest_clash number count r =
       let w = clashes_first number count 1 r in (
         (λ h. first_map 1 count (λ slot. (clashes_below clash slot (slot - 1) ≡ true) × (r ≡ refuse number slot)) (λ slot. clashes_below clash slot (slot - 1) ≡ false) _ _
@@ -462,10 +460,10 @@ module _ (clash : ℕ → ℕ → Bool) where
             (λ n x. ((clash_below n (n - 1)).1 x.0, x.1)) (λ n l m. (no_clash_below n (n - 1)).1) f)),
       )
 
-pub place_11 : (g : Geometry) (image : List ℕ) (r : Refusal) → Exactly (refusal11 g image ≡ Stopped r) (LowestClash (shares g image) 11 (slot_count g) r)
+pub place_11 : (g : Geometry) (image : List ℕ) (r : Refusal) → Exactly (refusal11 g image ≡ Err r) (LowestClash (shares g image) 11 (slot_count g) r)
 place_11 g image r = lowest_clash (shares g image) 11 (slot_count g) r
 
-pub place_12 : (g : Geometry) (image : List ℕ) (r : Refusal) → Exactly (refusal12 g image ≡ Stopped r) (LowestClash (namesake g image) 12 (slot_count g) r)
+pub place_12 : (g : Geometry) (image : List ℕ) (r : Refusal) → Exactly (refusal12 g image ≡ Err r) (LowestClash (namesake g image) 12 (slot_count g) r)
 place_12 g image r = lowest_clash (namesake g image) 12 (slot_count g) r
 
 -- two labels clash by their names: one name, both levels known. (By their extents: ExtentWhole.)

@@ -1,6 +1,6 @@
 -- A refusal is given exactly when its list says so: it is the first of the list that is given. And what was lent stays as it was.
 -- Assumes nothing.
-use Rattle.std.specs.Prelude.{ℕ, ◌≡◌, Bool, true, false, cond, List, [], ◌∷◌, ◌++◌, length, ltb}
+use Rattle.std.specs.Prelude.{ℕ, ◌≡◌, Bool, true, false, cond, List, [], ◌∷◌, ◌++◌, length, ltb, Result, Ok, Err, ⊤}
 use Rattle.std.proofs.Math.Path.{refl, ap}
 use Rattle.std.proofs.Common.{subst, ◌∙◌}
 use Rattle.standard.specs.Refusals.{refuse, in_order}
@@ -15,15 +15,8 @@ use Rattle.standard.specs.Layout.{label_at}
 use Rattle.standard.specs.declared.Geometry.{Geometry}
 use Rattle.standard.specs.declared.Place.{Place}
 use Rattle.standard.specs.declared.Refusal.{Refusal}
-use Rattle.standard.specs.declared.Checked.{Checked}
-use Rattle.standard.specs.declared.Checked.TheVariants.{Passed, Stopped}
-use Rattle.standard.specs.declared.Judged.{Judged}
-use Rattle.standard.specs.declared.Judged.TheVariants.{Refused, Volume}
-use Rattle.standard.specs.declared.Counted.TheVariants.{Uncounted}
-use Rattle.standard.specs.declared.Found.TheVariants.{Unfound}
 use Rattle.standard.specs.declared.Answer.{Answer}
-use Rattle.standard.specs.declared.Answer.TheVariants.{Unanswered, Record as RecordOf, Gap, End}
-use Rattle.standard.specs.declared.Written.TheVariants.{Unwritten, Blocks}
+use Rattle.standard.specs.declared.Answer.TheVariants.{Record as RecordOf, Gap, End}
 use Rattle.promises.specs.Ground.Lists.{Every}
 use Rattle.promises.specs.Ground.Basics.{never}
 
@@ -32,84 +25,84 @@ abbrev pub Exactly : Type 0 → Type 0 → Type 0
 Exactly A B = (A → B) × (B → A)
 
 -- none of a list of refusals is given
-abbrev pub NoneGiven : List Checked → Type 0
-NoneGiven list = Every (λ c. c ≡ Passed) list
+abbrev pub NoneGiven : List (Result ⊤ Refusal) → Type 0
+NoneGiven list = Every (λ c. c ≡ Ok tt) list
 
 -- IT IS THE FIRST OF A LIST THAT IS GIVEN: none before it is
-pub record First (r : Refusal) (list : List Checked) : Type 0 where
-  pub earlier : List Checked
-  pub later : List Checked
-  pub stands : list ≡ earlier ++ (Stopped r ∷ later)
+pub record First (r : Refusal) (list : List (Result ⊤ Refusal)) : Type 0 where
+  pub earlier : List (Result ⊤ Refusal)
+  pub later : List (Result ⊤ Refusal)
+  pub stands : list ≡ earlier ++ (Err r ∷ later)
   pub none_earlier : NoneGiven earlier
 
-pub order_first : (list : List Checked) (r : Refusal) → in_order list ≡ Stopped r → First r list
+pub order_first : (list : List (Result ⊤ Refusal)) (r : Refusal) → in_order list ≡ Err r → First r list
 unfolding in_order
 order_first [] r h = never (cc)
-order_first (Passed ∷ list) r h =
+order_first (Ok _ ∷ list) r h =
     let f = order_first list r h in
-    record { earlier = Passed ∷ f.earlier; later = f.later; stands = ap (λ (l : List Checked). Passed ∷ l) f.stands; none_earlier = (refl, f.none_earlier) }
-order_first (Stopped q ∷ list) r h = record { earlier = []; later = list; stands = cc; none_earlier = tt }
+    record { earlier = Ok tt ∷ f.earlier; later = f.later; stands = ap (λ (l : List (Result ⊤ Refusal)). Ok tt ∷ l) f.stands; none_earlier = (refl, f.none_earlier) }
+order_first (Err q ∷ list) r h = record { earlier = []; later = list; stands = cc; none_earlier = tt }
 
-none_then : (earlier later : List Checked) (r : Refusal) → NoneGiven earlier → in_order (earlier ++ (Stopped r ∷ later)) ≡ Stopped r
+none_then : (earlier later : List (Result ⊤ Refusal)) (r : Refusal) → NoneGiven earlier → in_order (earlier ++ (Err r ∷ later)) ≡ Err r
 unfolding in_order
 none_then [] later r h = refl
-none_then (Passed ∷ earlier) later r h = none_then earlier later r h.1
-none_then (Stopped q ∷ earlier) later r h = never (let e = h.0 in cc)
+none_then (Ok _ ∷ earlier) later r h = none_then earlier later r h.1
+none_then (Err q ∷ earlier) later r h = never (let e = h.0 in cc)
 
-pub first_order : (list : List Checked) (r : Refusal) → First r list → in_order list ≡ Stopped r
+pub first_order : (list : List (Result ⊤ Refusal)) (r : Refusal) → First r list → in_order list ≡ Err r
 first_order list r f = ap in_order f.stands ∙ none_then f.earlier f.later r f.none_earlier
 
 -- the volume
-verdict_stopped : (c : Checked) (g : Geometry) (r : Refusal) → verdict c g ≡ Refused r → c ≡ Stopped r
-verdict_stopped Passed g r h = never (cc)
-verdict_stopped (Stopped q) g r h = cc
+verdict_stopped : (c : Result ⊤ Refusal) (g : Geometry) (r : Refusal) → verdict c g ≡ Err r → c ≡ Err r
+verdict_stopped (Ok _) g r h = never (cc)
+verdict_stopped (Err q) g r h = cc
 
-pub volume_first : (image : List ℕ) (r : Refusal) → Exactly (judged image ≡ Refused r) (First r (volume_list image (volume_of image)))
+pub volume_first : (image : List ℕ) (r : Refusal) → Exactly (judged image ≡ Err r) (First r (volume_list image (volume_of image)))
 unfolding judged volume_refusal
 volume_first image r = (
   (λ h. order_first (volume_list image (volume_of image)) r (verdict_stopped _ (volume_of image) r h)),
-  (λ f. ap (λ (c : Checked). verdict c (volume_of image)) (first_order (volume_list image (volume_of image)) r f)),
+  (λ f. ap (λ (c : Result ⊤ Refusal). verdict c (volume_of image)) (first_order (volume_list image (volume_of image)) r f)),
 )
 
 -- a reading's reply, and a write's outcome, by the judgement of the volume
-abbrev pub reply_on : Judged → Mode → List ℕ → ℕ → Place → ℕ → Reply
+abbrev pub reply_on : Result Geometry Refusal → Mode → List ℕ → ℕ → Place → ℕ → Reply
 reply_on v m image slot pl room = on_volume v unanswered (λ g. opened (open_refusal g image slot) (reply_in m (file_in g image (label_at g image slot)) pl room))
 
 abbrev outcome_done : Geometry → List ℕ → ℕ → List ℕ → List ℕ → Outcome
 outcome_done g image slot bodies lengths =
     let p = packing (label_at g image slot) bodies lengths in
-    record { answer = Blocks (length p.contents); image = image_with g image slot p }
+    record { answer = Ok (length p.contents); image = image_with g image slot p }
 
-abbrev outcome_on : Judged → List ℕ → ℕ → List ℕ → List ℕ → Outcome
+abbrev outcome_on : Result Geometry Refusal → List ℕ → ℕ → List ℕ → List ℕ → Outcome
 outcome_on v image slot bodies lengths =
-    on_volume v (λ x. record { answer = Unwritten x; image = image })
+    on_volume v (λ x. record { answer = Err x; image = image })
     (λ g. unless (write_refusal g image slot bodies lengths) image (outcome_done g image slot bodies lengths))
 
 -- "A file call stops at the first refusal of the volume."
-pub volume_stops : (image : List ℕ) (r : Refusal) → judged image ≡ Refused r
-    → ((name : List ℕ) → found image name ≡ Unfound r)
-    × ((slot : ℕ) → found_at image slot ≡ Unfound r)
-    × ((slot : ℕ) → counted image slot ≡ Uncounted r)
-    × (free_count image ≡ Uncounted r)
-    × ((m : Mode) (slot : ℕ) (pl : Place) (out : List ℕ) → read_answer m image slot pl out ≡ Unanswered r)
-    × ((slot : ℕ) (bodies lengths : List ℕ) → written image slot bodies lengths ≡ Unwritten r)
+pub volume_stops : (image : List ℕ) (r : Refusal) → judged image ≡ Err r
+    → ((name : List ℕ) → found image name ≡ Err r)
+    × ((slot : ℕ) → found_at image slot ≡ Err r)
+    × ((slot : ℕ) → counted image slot ≡ Err r)
+    × (free_count image ≡ Err r)
+    × ((m : Mode) (slot : ℕ) (pl : Place) (out : List ℕ) → read_answer m image slot pl out ≡ Err r)
+    × ((slot : ℕ) (bodies lengths : List ℕ) → written image slot bodies lengths ≡ Err r)
 unfolding found found_at counted free_count reply outcome
 volume_stops image r j = (
   (λ name. rw j),
   (λ slot. rw j),
   (λ slot. rw j),
   rw j,
-  (λ m slot pl out. ap (λ (v : Judged). (reply_on v m image slot pl (length out)).answer) j),
-  (λ slot bodies lengths. ap (λ (v : Judged). (outcome_on v image slot bodies lengths).answer) j),
+  (λ m slot pl out. ap (λ (v : Result Geometry Refusal). (reply_on v m image slot pl (length out)).answer) j),
+  (λ slot bodies lengths. ap (λ (v : Result Geometry Refusal). (outcome_on v image slot bodies lengths).answer) j),
 )
 
 -- the count
-count_stopped : (c : Checked) (n : ℕ) (r : Refusal) → count_or c n ≡ Uncounted r → c ≡ Stopped r
-count_stopped Passed n r h = never (cc)
-count_stopped (Stopped q) n r h = cc
+count_stopped : (c : Result ⊤ Refusal) (n : ℕ) (r : Refusal) → count_or c n ≡ Err r → c ≡ Err r
+count_stopped (Ok _) n r h = never (cc)
+count_stopped (Err q) n r h = cc
 
-module _ (image : List ℕ) (g : Geometry) (j : judged image ≡ Volume g) where
-  pub count_first : (slot : ℕ) (r : Refusal) → Exactly (counted image slot ≡ Uncounted r) (First r (count_list g image slot))
+module _ (image : List ℕ) (g : Geometry) (j : judged image ≡ Ok g) where
+  pub count_first : (slot : ℕ) (r : Refusal) → Exactly (counted image slot ≡ Err r) (First r (count_list g image slot))
   unfolding counted count_refusal
   count_first slot r = (
     (λ h. order_first (count_list g image slot) r (count_stopped (in_order (count_list g image slot)) _ r (rw j at h))),
@@ -117,44 +110,44 @@ module _ (image : List ℕ) (g : Geometry) (j : judged image ≡ Volume g) where
   )
 
   -- writing
-  write_stopped : (c : Checked) (o : Outcome) (n : ℕ) (r : Refusal) → o.answer ≡ Blocks n → (unless c image o).answer ≡ Unwritten r → c ≡ Stopped r
-  write_stopped Passed o n r b h = never (cc)
-  write_stopped (Stopped q) o n r b h = cc
+  write_stopped : (c : Result ⊤ Refusal) (o : Outcome) (n : ℕ) (r : Refusal) → o.answer ≡ Ok n → (unless c image o).answer ≡ Err r → c ≡ Err r
+  write_stopped (Ok _) o n r b h = never (cc)
+  write_stopped (Err q) o n r b h = cc
 
   pub write_first : (slot : ℕ) (bodies lengths : List ℕ) (r : Refusal)
-      → Exactly (written image slot bodies lengths ≡ Unwritten r) (First r (write_list g image slot bodies lengths))
+      → Exactly (written image slot bodies lengths ≡ Err r) (First r (write_list g image slot bodies lengths))
   unfolding outcome write_refusal
   write_first slot bodies lengths r = (
     (λ h. order_first (write_list g image slot bodies lengths) r (write_stopped (in_order (write_list g image slot bodies lengths)) _ _ r refl
-        (subst (λ (v : Judged). (outcome_on v image slot bodies lengths).answer ≡ Unwritten r) j h))),
-    (λ f. ap (λ (v : Judged). (outcome_on v image slot bodies lengths).answer) j ∙ ap (λ (c : Checked). (unless c image (outcome_done g image slot bodies lengths)).answer) (first_order (write_list g image slot bodies lengths) r f)),
+        (subst (λ (v : Result Geometry Refusal). (outcome_on v image slot bodies lengths).answer ≡ Err r) j h))),
+    (λ f. ap (λ (v : Result Geometry Refusal). (outcome_on v image slot bodies lengths).answer) j ∙ ap (λ (c : Result ⊤ Refusal). (unless c image (outcome_done g image slot bodies lengths)).answer) (first_order (write_list g image slot bodies lengths) r f)),
   )
 
   -- a write that answers with blocks was refused by nothing
-  write_done : (c : Checked) (o : Outcome) (n : ℕ) → (unless c image o).answer ≡ Blocks n → c ≡ Passed
-  write_done Passed o n h = refl
-  write_done (Stopped q) o n h = never (cc)
+  write_done : (c : Result ⊤ Refusal) (o : Outcome) (n : ℕ) → (unless c image o).answer ≡ Ok n → c ≡ Ok tt
+  write_done (Ok _) o n h = refl
+  write_done (Err q) o n h = never (cc)
 
-  pub accepted_write : (slot : ℕ) (bodies lengths : List ℕ) (n : ℕ) → written image slot bodies lengths ≡ Blocks n → write_refusal g image slot bodies lengths ≡ Passed
+  pub accepted_write : (slot : ℕ) (bodies lengths : List ℕ) (n : ℕ) → written image slot bodies lengths ≡ Ok n → write_refusal g image slot bodies lengths ≡ Ok tt
   unfolding outcome
   accepted_write slot bodies lengths n h =
       write_done (write_refusal g image slot bodies lengths) (outcome_done g image slot bodies lengths) n
-      (subst (λ (v : Judged). (outcome_on v image slot bodies lengths).answer ≡ Blocks n) j h)
+      (subst (λ (v : Result Geometry Refusal). (outcome_on v image slot bodies lengths).answer ≡ Ok n) j h)
 
 -- ---- what was lent stays
 -- A reply that is no record has no body; one that is a record has a body of the length that it names.
-abbrev Bodied : Answer → List ℕ → Type 0
-Bodied (Unanswered r) body = body ≡ []
-Bodied (RecordOf n pl) body = length body ≡ n
-Bodied (Gap pl) body = body ≡ []
-Bodied (End pl) body = body ≡ []
+abbrev Bodied : Result Answer Refusal → List ℕ → Type 0
+Bodied (Err r) body = body ≡ []
+Bodied (Ok (RecordOf n pl)) body = length body ≡ n
+Bodied (Ok (Gap pl)) body = body ≡ []
+Bodied (Ok (End pl)) body = body ≡ []
 
 delivered_bodied : (room : ℕ) (body : List ℕ) (pl : Place) → Bodied (delivered room body pl).answer (delivered room body pl).body
 delivered_bodied room body pl = go (ltb room (length body))
   where
     go : (t : Bool)
-        → Bodied (cond t (unanswered (refuse 23 (length body))) (record { answer = RecordOf (length body) pl; body = body })).answer
-        (cond t (unanswered (refuse 23 (length body))) (record { answer = RecordOf (length body) pl; body = body })).body
+        → Bodied (cond t (unanswered (refuse 23 (length body))) (record { answer = Ok (RecordOf (length body) pl); body = body })).answer
+        (cond t (unanswered (refuse 23 (length body))) (record { answer = Ok (RecordOf (length body) pl); body = body })).body
     go true = refl
     go false = refl
 
@@ -173,14 +166,14 @@ in_bodied m f pl room = go (in_file f pl) (replied_bodied f room (step m f pl))
     go true h = h
     go false h = refl
 
-opened_bodied : (c : Checked) (r : Reply) → Bodied r.answer r.body → Bodied (opened c r).answer (opened c r).body
-opened_bodied Passed r h = h
-opened_bodied (Stopped x) r h = refl
+opened_bodied : (c : Result ⊤ Refusal) (r : Reply) → Bodied r.answer r.body → Bodied (opened c r).answer (opened c r).body
+opened_bodied (Ok _) r h = h
+opened_bodied (Err x) r h = refl
 
-on_bodied : (v : Judged) (m : Mode) (image : List ℕ) (slot : ℕ) (pl : Place) (room : ℕ)
+on_bodied : (v : Result Geometry Refusal) (m : Mode) (image : List ℕ) (slot : ℕ) (pl : Place) (room : ℕ)
     → Bodied (reply_on v m image slot pl room).answer (reply_on v m image slot pl room).body
-on_bodied (Refused r) m image slot pl room = refl
-on_bodied (Volume g) m image slot pl room =
+on_bodied (Err r) m image slot pl room = refl
+on_bodied (Ok g) m image slot pl room =
     opened_bodied (open_refusal g image slot) (reply_in m (file_in g image (label_at g image slot)) pl room) (in_bodied m (file_in g image (label_at g image slot)) pl room)
 
 bodied : (m : Mode) (image : List ℕ) (slot : ℕ) (pl : Place) (room : ℕ) → Bodied (reply m image slot pl room).answer (reply m image slot pl room).body
@@ -192,28 +185,28 @@ module _ (m : Mode) (image : List ℕ) (slot : ℕ) (pl : Place) (out : List ℕ
   unfolding laid_over
   nothing_laid e = rw e
 
-  so : (a : Answer) → read_answer m image slot pl out ≡ a → Bodied a (reply m image slot pl (length out)).body
-  so a h = subst (λ (x : Answer). Bodied x (reply m image slot pl (length out)).body) h (bodied m image slot pl (length out))
+  so : (a : Result Answer Refusal) → read_answer m image slot pl out ≡ a → Bodied a (reply m image slot pl (length out)).body
+  so a h = subst (λ (x : Result Answer Refusal). Bodied x (reply m image slot pl (length out)).body) h (bodied m image slot pl (length out))
 
-  pub refusal_lays_nothing : (r : Refusal) → read_answer m image slot pl out ≡ Unanswered r → output_after m image slot pl out ≡ out
-  refusal_lays_nothing r h = nothing_laid (so (Unanswered r) h)
+  pub refusal_lays_nothing : (r : Refusal) → read_answer m image slot pl out ≡ Err r → output_after m image slot pl out ≡ out
+  refusal_lays_nothing r h = nothing_laid (so (Err r) h)
 
-  pub gap_lays_nothing : (next : Place) → read_answer m image slot pl out ≡ Gap next → output_after m image slot pl out ≡ out
-  gap_lays_nothing next h = nothing_laid (so (Gap next) h)
+  pub gap_lays_nothing : (next : Place) → read_answer m image slot pl out ≡ Ok (Gap next) → output_after m image slot pl out ≡ out
+  gap_lays_nothing next h = nothing_laid (so (Ok (Gap next)) h)
 
-  pub end_lays_nothing : (next : Place) → read_answer m image slot pl out ≡ End next → output_after m image slot pl out ≡ out
-  end_lays_nothing next h = nothing_laid (so (End next) h)
+  pub end_lays_nothing : (next : Place) → read_answer m image slot pl out ≡ Ok (End next) → output_after m image slot pl out ≡ out
+  end_lays_nothing next h = nothing_laid (so (Ok (End next)) h)
 
-write_unless : (c : Checked) (image : List ℕ) (o : Outcome) (n : ℕ) (r : Refusal) → o.answer ≡ Blocks n → (unless c image o).answer ≡ Unwritten r → (unless c image o).image ≡ image
-write_unless Passed image o n r b h = never (cc)
-write_unless (Stopped q) image o n r b h = refl
+write_unless : (c : Result ⊤ Refusal) (image : List ℕ) (o : Outcome) (n : ℕ) (r : Refusal) → o.answer ≡ Ok n → (unless c image o).answer ≡ Err r → (unless c image o).image ≡ image
+write_unless (Ok _) image o n r b h = never (cc)
+write_unless (Err q) image o n r b h = refl
 
-on_writes : (v : Judged) (image : List ℕ) (slot : ℕ) (bodies lengths : List ℕ) (r : Refusal)
-    → (outcome_on v image slot bodies lengths).answer ≡ Unwritten r → (outcome_on v image slot bodies lengths).image ≡ image
-on_writes (Refused x) image slot bodies lengths r h = refl
-on_writes (Volume g) image slot bodies lengths r h = write_unless (write_refusal g image slot bodies lengths) image _ _ r refl h
+on_writes : (v : Result Geometry Refusal) (image : List ℕ) (slot : ℕ) (bodies lengths : List ℕ) (r : Refusal)
+    → (outcome_on v image slot bodies lengths).answer ≡ Err r → (outcome_on v image slot bodies lengths).image ≡ image
+on_writes (Err x) image slot bodies lengths r h = refl
+on_writes (Ok g) image slot bodies lengths r h = write_unless (write_refusal g image slot bodies lengths) image _ _ r refl h
 
 pub refusal_writes_nothing : (image : List ℕ) (slot : ℕ) (bodies lengths : List ℕ) (r : Refusal)
-    → written image slot bodies lengths ≡ Unwritten r → image_after image slot bodies lengths ≡ image
+    → written image slot bodies lengths ≡ Err r → image_after image slot bodies lengths ≡ image
 unfolding outcome
 refusal_writes_nothing image slot bodies lengths r h = on_writes (judged image) image slot bodies lengths r h

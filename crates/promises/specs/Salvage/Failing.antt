@@ -1,6 +1,6 @@
 -- Sectors that fail, and what a salvage has to give then.
 -- Assumes nothing.
-use Rattle.std.specs.Prelude.{ℕ, ◌*◌, ◌<◌, ◌≤◌, ◌≡◌, Bool, true, false, ◌||◌, List, [], ◌∷◌, ◌++◌, map, length, take, drop}
+use Rattle.std.specs.Prelude.{ℕ, ◌*◌, ◌<◌, ◌≤◌, ◌≡◌, Bool, true, false, ◌||◌, List, [], ◌∷◌, ◌++◌, map, length, take, drop, Ok}
 use Rattle.standard.specs.Layout.{index_sectors, check_failed, label_at}
 use Rattle.standard.specs.Addresses.{ordinal}
 use Rattle.standard.specs.Records.{plain, salvage, FileRecord}
@@ -11,8 +11,6 @@ use Rattle.standard.specs.Files.{extent, good_records, records_to_block, block_c
 use Rattle.standard.specs.Damage.{damaged, remains, records_in, gaps_in, spared_of, gone_of}
 use Rattle.standard.specs.declared.Geometry.{Geometry}
 use Rattle.standard.specs.declared.Address.{Address}
-use Rattle.standard.specs.declared.Checked.TheVariants.{Passed}
-use Rattle.standard.specs.declared.Judged.TheVariants.{Volume}
 use Rattle.promises.specs.Images.Sectors.{sector_at, sector_of}
 use Rattle.promises.specs.Reading.Following.{told, done, following, heard, Fits}
 
@@ -61,8 +59,8 @@ pub record Salvaged (g : Geometry) (hit : ℕ → Bool) (image image' : List ℕ
   -- before the failure its list is these records, each with the blocks in which it begins and ends, and End
   pub before : listed plain (file_in g image (label_at g image slot)) ≡ map rec rs ++ (end ∷ [])
   -- after it: the volume and the label as before, the file with the blocks lost that are gone
-  pub volume : judged image' ≡ Volume g
-  pub opens : open_refusal g image' slot ≡ Passed
+  pub volume : judged image' ≡ Ok g
+  pub opens : open_refusal g image' slot ≡ Ok tt
   pub label : label_at g image' slot ≡ label_at g image slot
   pub file : file_in g image' (label_at g image' slot) ≡ damaged (gone g hit image (label_at g image slot)) (file_in g image (label_at g image slot))
   -- its list

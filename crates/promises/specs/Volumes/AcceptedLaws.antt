@@ -1,6 +1,6 @@
 -- What an accepted volume's labels are: without fault, their extents in range, no two of which share a record.
 -- Assumes nothing.
-use Rattle.std.specs.Prelude.{ℕ, ◌<◌, ◌≤◌, refl, ◌≡◌, true, false, not, List, length, leb, ltb, eqb}
+use Rattle.std.specs.Prelude.{ℕ, ◌<◌, ◌≤◌, refl, ◌≡◌, true, false, not, List, length, leb, ltb, eqb, Ok}
 use Rattle.std.proofs.Common.{sym, arith, eq-or-lt_of_le, ltb-false, leb-true, le-leb, eqb-true}
 use Rattle.std.proofs.lemmas.Bool.{not-true, not-false}
 use Rattle.standard.specs.Layout.{slot_count, label_at, image_length}
@@ -11,11 +11,10 @@ use Rattle.standard.specs.Free.{in_extent}
 use Rattle.standard.specs.Slots.{is_label, has_label}
 use Rattle.standard.specs.Judgement.{overlap, shares, judged}
 use Rattle.standard.specs.declared.Geometry.{Geometry}
-use Rattle.standard.specs.declared.Judged.TheVariants.{Volume}
 use Rattle.promises.specs.Ground.Basics.{either, lt_or_le, true_not_false, and_l, and_r}
 use Rattle.promises.specs.Volumes.Judging.{not_given, rows_each, accepted, slots_each, label_right, none_clash}
 
-pub image_length_lem : (image : List ℕ) (g : Geometry) → judged image ≡ Volume g → length image ≡ image_length g
+pub image_length_lem : (image : List ℕ) (g : Geometry) → judged image ≡ Ok g → length image ≡ image_length g
 image_length_lem image g j =
     let n = not_given (not (eqb (length image) (image_length g))) _ (accepted image g j).size in
     eqb-true (length image) (image_length g) (not-false _ n)
@@ -27,7 +26,7 @@ has_slot g image slot h =
     let b = and_l (between 1 (slot_count g) slot) _ h in
     (leb-true 1 slot (and_l (leb 1 slot) _ b), leb-true slot (slot_count g) (and_r (leb 1 slot) _ b), and_r (between 1 (slot_count g) slot) _ h)
 
-pub label_faultless : (image : List ℕ) (g : Geometry) (slot : ℕ) → judged image ≡ Volume g → has_label g image slot ≡ true → label_fault g (label_at g image slot) ≡ 0
+pub label_faultless : (image : List ℕ) (g : Geometry) (slot : ℕ) → judged image ≡ Ok g → has_label g image slot ≡ true → label_fault g (label_at g image slot) ≡ 0
 label_faultless image g slot j h =
     let s = has_slot g image slot h in
     label_right g image slot (slots_each g image (accepted image g j).slots slot s.0 s.1) s.2
@@ -54,7 +53,7 @@ fault_none g h z =
       ordered = ltb-false (rank g (end_of h)) (rank g (start_of h)) (not-true _ n);
     }
 
-pub label_in_range : (image : List ℕ) (g : Geometry) (slot : ℕ) → judged image ≡ Volume g → has_label g image slot ≡ true → InRange g (label_at g image slot)
+pub label_in_range : (image : List ℕ) (g : Geometry) (slot : ℕ) → judged image ≡ Ok g → has_label g image slot ≡ true → InRange g (label_at g image slot)
 label_in_range image g slot j h =
     fault_none g (label_at g image slot) (label_faultless image g slot j h)
 
@@ -77,7 +76,7 @@ no_overlap g h k i o a b =
     let q = le-leb (rank g (start_of k)) (rank g (end_of h)) (omega arith) in
     true_not_false _ (simp (p, q)) o
 
-lower_apart : (image : List ℕ) (g : Geometry) (slot lower i : ℕ) → judged image ≡ Volume g → has_label g image slot ≡ true → has_label g image lower ≡ true
+lower_apart : (image : List ℕ) (g : Geometry) (slot lower i : ℕ) → judged image ≡ Ok g → has_label g image slot ≡ true → has_label g image lower ≡ true
     → lower < slot → in_extent g (label_at g image slot) i ≡ true → in_extent g (label_at g image lower) i ≡ true → ⊥
 unfolding shares
 lower_apart image g slot lower i j hs hl lt a b =
@@ -87,7 +86,7 @@ lower_apart image g slot lower i j hs hl lt a b =
     let o : overlap g (label_at g image slot) (label_at g image lower) ≡ false = rw (s.2, t.2) at c in
     no_overlap g (label_at g image slot) (label_at g image lower) i o a b
 
-pub labels_apart : (image : List ℕ) (g : Geometry) (slot other i : ℕ) → judged image ≡ Volume g → has_label g image slot ≡ true → has_label g image other ≡ true
+pub labels_apart : (image : List ℕ) (g : Geometry) (slot other i : ℕ) → judged image ≡ Ok g → has_label g image slot ≡ true → has_label g image other ≡ true
     → in_extent g (label_at g image slot) i ≡ true → in_extent g (label_at g image other) i ≡ true → slot ≡ other
 labels_apart image g slot other i j hs ho a b =
     either (lt_or_le slot other)

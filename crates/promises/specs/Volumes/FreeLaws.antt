@@ -2,7 +2,7 @@
 -- record, so that the sizes of the extents are taken away once each.
 -- Assumes nothing.
 use Prim.Native.Nat.{ℕ, zero, suc, ◌+◌, ◌<◌, ◌≤◌}
-use Rattle.std.specs.Prelude.{◌≡◌, Bool, true, cond, ◌&&◌, ◌||◌, List, leb}
+use Rattle.std.specs.Prelude.{◌≡◌, Bool, true, cond, ◌&&◌, ◌||◌, List, leb, Ok}
 use Rattle.std.proofs.Math.Path.{refl}
 use Rattle.std.proofs.Math.Bool.{false}
 use Rattle.std.proofs.Common.{arith, le-leb}
@@ -16,8 +16,6 @@ use Rattle.standard.specs.Files.{extent_size}
 use Rattle.standard.specs.Free.{in_extent, taken, free_from, free_records, free_count}
 use Rattle.standard.specs.Judgement.{judged}
 use Rattle.standard.specs.declared.Geometry.{Geometry}
-use Rattle.standard.specs.declared.Judged.TheVariants.{Volume}
-use Rattle.standard.specs.declared.Counted.TheVariants.{Count}
 use Rattle.promises.specs.Ground.Basics.{either, lt_or_le, by_test, true_not_false, and_l, and_r, or_rest}
 use Rattle.promises.specs.Images.AddressLaws.{rank_lt}
 use Rattle.promises.specs.Volumes.AcceptedLaws.{label_in_range, labels_apart}
@@ -98,8 +96,8 @@ unfolding free_from failing
 free_from_lem g image zero i = refl
 free_from_lem g image (suc left) i = rw (free_from_lem g image left (i + 1))
 
-module _ (image : List ℕ) (g : Geometry) (j : judged image ≡ Volume g) where
-  pub free_counted : free_count image ≡ Count (free_records g image)
+module _ (image : List ℕ) (g : Geometry) (j : judged image ≡ Ok g) where
+  pub free_counted : free_count image ≡ Ok (free_records g image)
   unfolding free_count
   free_counted = rw j
 

@@ -1,7 +1,7 @@
 -- What is read of the index cylinder: two images with the same sectors there have the same numbers and the same labels; and an image is accepted if what
 -- the judgement reads of it is as in an accepted one.
 -- Assumes nothing.
-use Rattle.std.specs.Prelude.{ℕ, ◌-◌, ◌<◌, ◌≤◌, ◌≡◌, Bool, ◌&&◌, List, length, leb}
+use Rattle.std.specs.Prelude.{ℕ, ◌-◌, ◌<◌, ◌≤◌, ◌≡◌, Bool, ◌&&◌, List, length, leb, Ok}
 use Rattle.std.proofs.Common.{ap, sym, ◌∙◌, arith, lt-ltb, leb-true}
 use Rattle.std.proofs.Math.Path.{refl}
 use Rattle.std.proofs.Math.Bool.{true, false}
@@ -10,9 +10,7 @@ use Rattle.standard.specs.Characters.{between, field}
 use Rattle.standard.specs.Layout.{index_sectors, sector_count, index_kind, ermap_of, vol1_of, slot_count, slot_ordinal, label_at, index_body}
 use Rattle.standard.specs.Slots.{is_label, is_deleted, is_unreadable, slot_refusal, has_label}
 use Rattle.standard.specs.Labels.{known_level}
-use Rattle.standard.specs.declared.Judged.TheVariants.{Volume}
 use Rattle.standard.specs.declared.Geometry.{Geometry}
-use Rattle.standard.specs.declared.Checked.TheVariants.{Passed}
 use Rattle.promises.specs.Ground.Basics.{and_l, and_r}
 use Rattle.promises.specs.Images.Sectors.{sector_at, AgreeOn, in_index}
 use Rattle.promises.specs.Images.SectorLaws.{same_kind, same_body, same_first, same_valid, same_incorrect, same_failed, index_kind_lem, index_body_lem, slot_body}
@@ -93,8 +91,8 @@ module _ (g : Geometry) (image image' : List ℕ) (numbers : Numbers g) where
 -- its labels clash
 pub accepted_with : (g : Geometry) (image image' : List ℕ) → Numbers g → SameFront g image image' → length image ≡ length image'
     → ((n : ℕ) → n < sector_count g → legal_kind g image n ≡ true → legal_kind g image' n ≡ true)
-    → ((slot : ℕ) → 1 ≤ slot → slot ≤ slot_count g → slot_refusal g image slot ≡ Passed → slot_refusal g image' slot ≡ Passed)
-    → refusal11 g image' ≡ Passed → refusal12 g image' ≡ Passed → Accepted image g → Accepted image' g
+    → ((slot : ℕ) → 1 ≤ slot → slot ≤ slot_count g → slot_refusal g image slot ≡ Ok tt → slot_refusal g image' slot ≡ Ok tt)
+    → refusal11 g image' ≡ Ok tt → refusal12 g image' ≡ Ok tt → Accepted image g → Accepted image' g
 accepted_with g image image' numbers front e k s extents names a =
     let v1 = same_vol1 g image image' numbers front in
     record {
@@ -132,7 +130,7 @@ module _ (g : Geometry) (image image' : List ℕ) (v : SameViews g image image')
   -- or if the views of its labels are the same
   pub accepted_alike : Numbers g → SameFront g image image' → length image ≡ length image'
       → ((n : ℕ) → n < sector_count g → legal_kind g image n ≡ true → legal_kind g image' n ≡ true)
-      → ((slot : ℕ) → 1 ≤ slot → slot ≤ slot_count g → slot_refusal g image slot ≡ Passed → slot_refusal g image' slot ≡ Passed)
+      → ((slot : ℕ) → 1 ≤ slot → slot ≤ slot_count g → slot_refusal g image slot ≡ Ok tt → slot_refusal g image' slot ≡ Ok tt)
       → Accepted image g → Accepted image' g
   accepted_alike numbers front e k s a =
       accepted_with g image image' numbers front e k s
@@ -167,8 +165,8 @@ module _ (g : Geometry) (image image' : List ℕ) (numbers : Numbers g) (agree :
       (λ slot l m p. sym (same_slot_refusal g image image' numbers slot m (index_slot slot m)) ∙ p) a
 
 -- two accepted images that agree there have the same numbers
-pub index_judged : (image image' : List ℕ) (g g' : Geometry) → judged image ≡ Volume g → judged image' ≡ Volume g' → AgreeOn g (in_index g) image image'
-    → judged image' ≡ Volume g
+pub index_judged : (image image' : List ℕ) (g g' : Geometry) → judged image ≡ Ok g → judged image' ≡ Ok g' → AgreeOn g (in_index g) image image'
+    → judged image' ≡ Ok g
 index_judged image image' g g' j j' agree =
     let n = numbers_of_lem image g j in
-    j' ∙ ap Volume (sym (accepted image' g' j').numbers ∙ sym (same_volume g image image' n (index_front g image image' n agree)) ∙ (accepted image g j).numbers)
+    j' ∙ ap Ok (sym (accepted image' g' j').numbers ∙ sym (same_volume g image image' n (index_front g image image' n agree)) ∙ (accepted image g j).numbers)

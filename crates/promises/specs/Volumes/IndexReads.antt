@@ -1,7 +1,7 @@
 -- What is answered from the index cylinder alone: files found, labels handed out, free records. And the index cylinder as bytes.
 -- Assumes nothing.
 use Prim.Native.Nat.{ℕ, zero, suc, ◌+◌, ◌*◌, ◌<◌, ◌≤◌}
-use Rattle.std.specs.Prelude.{◌≡◌, List, take}
+use Rattle.std.specs.Prelude.{◌≡◌, List, take, Result, Ok, Err}
 use Rattle.std.proofs.Math.Path.{refl, ap}
 use Rattle.std.proofs.Common.{sym, ◌∙◌, arith, ltb-true, lt-ltb}
 use Rattle.standard.specs.Free.{in_extent, taken, free_from, free_count}
@@ -12,14 +12,12 @@ use Rattle.standard.specs.Judgement.{judged}
 use Rattle.standard.specs.Finding.{is_named, found_from, found_slot, found, found_at, label_part, label_named, label_in_slot}
 use Rattle.standard.specs.declared.Geometry.{Geometry}
 use Rattle.standard.specs.declared.Found.{Found}
-use Rattle.standard.specs.declared.Found.TheVariants.{Unfound, At}
-use Rattle.standard.specs.declared.Counted.TheVariants.{Count}
-use Rattle.standard.specs.declared.Judged.TheVariants.{Volume}
 use Rattle.promises.specs.Ground.Basics.{cond_elim}
 use Rattle.promises.specs.Ground.Splices.{part_front}
 use Rattle.promises.specs.Images.Sectors.{sector_at, AgreeOn, in_index}
 use Rattle.promises.specs.Volumes.AcceptedLaws.{has_slot}
 use Rattle.promises.specs.Volumes.VolumeNumbers.{numbers_of_lem}
+use Rattle.standard.specs.declared.Refusal.{Refusal}
 use Rattle.promises.specs.Volumes.IndexLaws.{SameViews, same_has_label, index_views, index_label, index_judged}
 
 -- THE INDEX CYLINDER AS BYTES: its sectors are the first S·I·129 bytes
@@ -58,7 +56,7 @@ module _ (g : Geometry) (image image' : List ℕ) (v : SameViews g image image')
   free_same zero i = refl
   free_same (suc left) i = rw (taken_same i (slot_count g) (omega arith), free_same left (i + 1))
 
-  module _ (j : judged image ≡ Volume g) (j' : judged image' ≡ Volume g) where
+  module _ (j : judged image ≡ Ok g) (j' : judged image' ≡ Ok g) where
     pub views_found : (name : List ℕ) → found image name ≡ found image' name
     unfolding found
     views_found name = rw (j, j') (found_same name (slot_count g) 1 (omega arith) (omega arith))
@@ -69,13 +67,13 @@ module _ (g : Geometry) (image image' : List ℕ) (v : SameViews g image image')
 
     pub views_free : free_count image ≡ free_count image'
     unfolding free_count
-    views_free = rw (j, j') (ap Count (free_same (address_count g) 0))
+    views_free = rw (j, j') (ap Ok (free_same (address_count g) 0))
 
 -- a found slot is one of the volume
 module _ (g : Geometry) (image : List ℕ) where
-  abbrev Within : Found → Type 0
-  Within (Unfound r) = Unit {0}
-  Within (At slot offset) = (1 ≤ slot) × (slot ≤ slot_count g)
+  abbrev Within : Result Found Refusal → Type 0
+  Within (Err r) = Unit {0}
+  Within (Ok f) = (1 ≤ f.slot) × (f.slot ≤ slot_count g)
 
   found_within : (name : List ℕ) (left slot : ℕ) → 1 ≤ slot → slot + left ≤ slot_count g + 1 → Within (found_from g image name left slot)
   unfolding found_from
@@ -89,10 +87,10 @@ module _ (g : Geometry) (image : List ℕ) where
 
 -- two accepted images whose labels, and with them their views, are the same: the labels handed out
 module _ (g : Geometry) (image image' : List ℕ) (v : SameViews g image image')
-    (labels : (slot : ℕ) → 1 ≤ slot → slot ≤ slot_count g → label_at g image slot ≡ label_at g image' slot) (j : judged image ≡ Volume g) (j' : judged image' ≡ Volume g) where
-  part_alike : (f : Found) → Within g image f → label_part g image f ≡ label_part g image' f
-  part_alike (Unfound r) l = refl
-  part_alike (At slot offset) l = labels slot l.0 l.1
+    (labels : (slot : ℕ) → 1 ≤ slot → slot ≤ slot_count g → label_at g image slot ≡ label_at g image' slot) (j : judged image ≡ Ok g) (j' : judged image' ≡ Ok g) where
+  part_alike : (f : Result Found Refusal) → Within g image f → label_part g image f ≡ label_part g image' f
+  part_alike (Err r) l = refl
+  part_alike (Ok f) l = labels f.slot l.0 l.1
 
   pub labels_named : (name : List ℕ) → label_named image name ≡ label_named image' name
   unfolding label_named
@@ -108,9 +106,9 @@ module _ (g : Geometry) (image image' : List ℕ) (v : SameViews g image image')
       (part_alike (found_slot g image slot) (slot_within g image slot) ∙ ap (label_part g image') (slot_same g image image' v slot))
 
 -- two accepted images equal in the index cylinder
-module _ (image image' : List ℕ) (g g' : Geometry) (j : judged image ≡ Volume g) (j' : judged image' ≡ Volume g')
+module _ (image image' : List ℕ) (g g' : Geometry) (j : judged image ≡ Ok g) (j' : judged image' ≡ Ok g')
     (agree : AgreeOn g (in_index g) image image') where
-  judged_same : judged image' ≡ Volume g
+  judged_same : judged image' ≡ Ok g
   judged_same = index_judged image image' g g' j j' agree
 
   views : SameViews g image image'

@@ -1,7 +1,7 @@
 -- Rules taken in order, and the judgement of a volume: that it is passed says that every part of it is, and the other way round.
 -- Assumes nothing.
 use Prim.Native.Nat.{ℕ, zero, suc, ◌+◌, ◌-◌, ◌<◌, ◌≤◌}
-use Rattle.std.specs.Prelude.{◌≡◌, Bool, true, cond, ◌&&◌, List, ◌∷◌, [], ◌++◌}
+use Rattle.std.specs.Prelude.{◌≡◌, Bool, true, cond, ◌&&◌, List, ◌∷◌, [], ◌++◌, Result, Ok, Err, ⊤}
 use Rattle.std.proofs.Math.Path.{refl}
 use Rattle.std.proofs.Common.{sym, subst, arith, eq-or-lt_of_le}
 use Rattle.std.proofs.Math.Bool.{false}
@@ -15,57 +15,54 @@ use Rattle.standard.specs.Judgement.{volume_of, refusal1, refusal2, refusal3, re
 use Rattle.standard.specs.Rules.{Row, lowest_fault}
 use Rattle.standard.specs.declared.Geometry.{Geometry}
 use Rattle.standard.specs.declared.Refusal.{Refusal}
-use Rattle.standard.specs.declared.Checked.{Checked}
-use Rattle.standard.specs.declared.Checked.TheVariants.{Passed, Stopped}
-use Rattle.standard.specs.declared.Judged.TheVariants.{Volume}
 use Rattle.promises.specs.Ground.Basics.{either, and_l, and_r, or_l, or_r}
 use Rattle.promises.specs.Ground.Lists.{Every}
 use Rattle.promises.specs.Images.SectorLaws.{valid_correct, valid_sound}
 
 -- rules in order
-stopped_never : (r : Refusal) → Stopped r ≡ Passed → ⊥
+stopped_never : (r : Refusal) → ◌≡◌ {A = Result ⊤ Refusal} (Err r) (Ok tt) → ⊥
 stopped_never r h = let z : ◌≡◌ {A = ℕ} 0 1 = cc in omega arith
 
-pub order_each : (cs : List Checked) → in_order cs ≡ Passed → Every (λ c. c ≡ Passed) cs
+pub order_each : (cs : List (Result ⊤ Refusal)) → in_order cs ≡ Ok tt → Every (λ c. c ≡ Ok tt) cs
 unfolding in_order
 order_each [] h = tt
-order_each (Passed ∷ cs) h = (refl, order_each cs h)
-order_each (Stopped r ∷ cs) h = absurd (stopped_never r h)
+order_each (Ok _ ∷ cs) h = (refl, order_each cs h)
+order_each (Err r ∷ cs) h = absurd (stopped_never r h)
 
-pub order_all : (cs : List Checked) → Every (λ c. c ≡ Passed) cs → in_order cs ≡ Passed
+pub order_all : (cs : List (Result ⊤ Refusal)) → Every (λ c. c ≡ Ok tt) cs → in_order cs ≡ Ok tt
 unfolding in_order
 order_all [] h = refl
-order_all (Passed ∷ cs) h = order_all cs h.1
-order_all (Stopped r ∷ cs) h = h.0
+order_all (Ok _ ∷ cs) h = order_all cs h.1
+order_all (Err r ∷ cs) h = h.0
 
 -- one row behind another: the first refusal of both, and none
-pub order_append : (xs ys : List Checked) → in_order (xs ++ ys) ≡ or_else (in_order xs) (in_order ys)
+pub order_append : (xs ys : List (Result ⊤ Refusal)) → in_order (xs ++ ys) ≡ or_else (in_order xs) (in_order ys)
 unfolding in_order or_else
 order_append [] ys = refl
-order_append (Passed ∷ xs) ys = order_append xs ys
-order_append (Stopped r ∷ xs) ys = refl
+order_append (Ok _ ∷ xs) ys = order_append xs ys
+order_append (Err r ∷ xs) ys = refl
 
-pub else_both : (c d : Checked) → or_else c d ≡ Passed → (c ≡ Passed) × (d ≡ Passed)
+pub else_both : (c d : Result ⊤ Refusal) → or_else c d ≡ Ok tt → (c ≡ Ok tt) × (d ≡ Ok tt)
 unfolding or_else
-else_both Passed d h = (refl, h)
-else_both (Stopped r) d h = absurd (stopped_never r h)
+else_both (Ok _) d h = (refl, h)
+else_both (Err r) d h = absurd (stopped_never r h)
 
-pub stop_first : (t : Bool) (r : Refusal) (c : Checked) → cond t (Stopped r) c ≡ Passed → t ≡ false
+pub stop_first : (t : Bool) (r : Refusal) (c : Result ⊤ Refusal) → cond t (Err r) c ≡ Ok tt → t ≡ false
 stop_first true r c h = absurd (stopped_never r h)
 stop_first false r c h = refl
 
-pub stop_rest : (t : Bool) (r : Refusal) (c : Checked) → cond t (Stopped r) c ≡ Passed → c ≡ Passed
+pub stop_rest : (t : Bool) (r : Refusal) (c : Result ⊤ Refusal) → cond t (Err r) c ≡ Ok tt → c ≡ Ok tt
 stop_rest true r c h = absurd (stopped_never r h)
 stop_rest false r c h = h
 
-pub not_given : (t : Bool) (r : Refusal) → given_when t r ≡ Passed → t ≡ false
+pub not_given : (t : Bool) (r : Refusal) → given_when t r ≡ Ok tt → t ≡ false
 unfolding given_when
-not_given t r h = stop_first t r Passed h
+not_given t r h = stop_first t r (Ok tt) h
 
 -- so many in a row, from one on: passed where each is
-module _ (run : ℕ → ℕ → Checked) (Q : ℕ → Type 0) where
-  run_each : ((left n : ℕ) → run (suc left) n ≡ Passed → Q n × (run left (n + 1) ≡ Passed))
-      → (left first : ℕ) → run left first ≡ Passed → (n : ℕ) → first ≤ n → n < first + left → Q n
+module _ (run : ℕ → ℕ → Result ⊤ Refusal) (Q : ℕ → Type 0) where
+  run_each : ((left n : ℕ) → run (suc left) n ≡ Ok tt → Q n × (run left (n + 1) ≡ Ok tt))
+      → (left first : ℕ) → run left first ≡ Ok tt → (n : ℕ) → first ≤ n → n < first + left → Q n
   run_each one zero first h n l m = absurd (omega arith)
   run_each one (suc left) first h n l m =
       let p = one left first h in
@@ -73,8 +70,8 @@ module _ (run : ℕ → ℕ → Checked) (Q : ℕ → Type 0) where
       (λ (e : first ≡ n). subst Q e p.0)
       (λ (k : first < n). run_each one left (first + 1) p.1 n (omega arith) (omega arith))
 
-  run_all : ((n : ℕ) → run zero n ≡ Passed) → ((left n : ℕ) → Q n → run left (n + 1) ≡ Passed → run (suc left) n ≡ Passed)
-      → (left first : ℕ) → ((n : ℕ) → first ≤ n → n < first + left → Q n) → run left first ≡ Passed
+  run_all : ((n : ℕ) → run zero n ≡ Ok tt) → ((left n : ℕ) → Q n → run left (n + 1) ≡ Ok tt → run (suc left) n ≡ Ok tt)
+      → (left first : ℕ) → ((n : ℕ) → first ≤ n → n < first + left → Q n) → run left first ≡ Ok tt
   run_all none one zero first h = none first
   run_all none one (suc left) first h =
       one left first (h first (omega arith) (omega arith)) (run_all none one left (first + 1) (λ n l m. h n (omega arith) (omega arith)))
@@ -102,26 +99,26 @@ rows_all (r ∷ rows) h = rw h.0 (rows_all rows h.1)
 -- the stages of an accepted volume
 pub record Accepted (image : List ℕ) (g : Geometry) : Type 0 where
   pub numbers : volume_of image ≡ g
-  pub long : refusal1 image ≡ Passed
-  pub readable : refusal2 image ≡ Passed
-  pub vol1 : refusal3 (vol1_of image) ≡ Passed
-  pub open_access : refusal4 (vol1_of image) ≡ Passed
-  pub size : refusal5 g image ≡ Passed
-  pub kinds : refusal6 g image ≡ Passed
-  pub ermap : refusal7 g.L (ermap_of image) ≡ Passed
-  pub slots : refusal8to10 g image ≡ Passed
-  pub extents : refusal11 g image ≡ Passed
-  pub names : refusal12 g image ≡ Passed
+  pub long : refusal1 image ≡ Ok tt
+  pub readable : refusal2 image ≡ Ok tt
+  pub vol1 : refusal3 (vol1_of image) ≡ Ok tt
+  pub open_access : refusal4 (vol1_of image) ≡ Ok tt
+  pub size : refusal5 g image ≡ Ok tt
+  pub kinds : refusal6 g image ≡ Ok tt
+  pub ermap : refusal7 g.L (ermap_of image) ≡ Ok tt
+  pub slots : refusal8to10 g image ≡ Ok tt
+  pub extents : refusal11 g image ≡ Ok tt
+  pub names : refusal12 g image ≡ Ok tt
 
-verdict_passed : (c : Checked) (g g' : Geometry) → verdict c g ≡ Volume g' → c ≡ Passed
-verdict_passed Passed g g' h = refl
-verdict_passed (Stopped r) g g' h = let z : ◌≡◌ {A = ℕ} 0 1 = cc in absurd (omega (arith, z))
+verdict_passed : (c : Result ⊤ Refusal) (g g' : Geometry) → verdict c g ≡ Ok g' → c ≡ Ok tt
+verdict_passed (Ok _) g g' h = refl
+verdict_passed (Err r) g g' h = let z : ◌≡◌ {A = ℕ} 0 1 = cc in absurd (omega (arith, z))
 
-verdict_numbers : (c : Checked) (g g' : Geometry) → verdict c g ≡ Volume g' → g ≡ g'
-verdict_numbers Passed g g' h = cc
-verdict_numbers (Stopped r) g g' h = let z : ◌≡◌ {A = ℕ} 0 1 = cc in absurd (omega (arith, z))
+verdict_numbers : (c : Result ⊤ Refusal) (g g' : Geometry) → verdict c g ≡ Ok g' → g ≡ g'
+verdict_numbers (Ok _) g g' h = cc
+verdict_numbers (Err r) g g' h = let z : ◌≡◌ {A = ℕ} 0 1 = cc in absurd (omega (arith, z))
 
-stages : (image : List ℕ) (g : Geometry) → volume_of image ≡ g → volume_refusal image g ≡ Passed → Accepted image g
+stages : (image : List ℕ) (g : Geometry) → volume_of image ≡ g → volume_refusal image g ≡ Ok tt → Accepted image g
 unfolding volume_refusal
 stages image g e h =
     let (r1, (r2, (r3, (r4, (r5, (r6, (r7, (r8, (r11, (r12, _)))))))))) = order_each _ h in
@@ -139,50 +136,50 @@ stages image g e h =
       names = r12;
     }
 
-pub accepted : (image : List ℕ) (g : Geometry) → judged image ≡ Volume g → Accepted image g
+pub accepted : (image : List ℕ) (g : Geometry) → judged image ≡ Ok g → Accepted image g
 unfolding judged
 accepted image g h =
     let e = verdict_numbers (volume_refusal image (volume_of image)) (volume_of image) g h in
     let p = verdict_passed (volume_refusal image (volume_of image)) (volume_of image) g h in
-    stages image g e (subst (λ (x : Geometry). volume_refusal image x ≡ Passed) e p)
+    stages image g e (subst (λ (x : Geometry). volume_refusal image x ≡ Ok tt) e p)
 
 -- THE JUDGEMENT IS ITS STAGES
-pub judged_from : (image : List ℕ) (g : Geometry) → Accepted image g → judged image ≡ Volume g
+pub judged_from : (image : List ℕ) (g : Geometry) → Accepted image g → judged image ≡ Ok g
 unfolding judged volume_refusal in_order
 judged_from image g a =
     rw
     (a.numbers, a.long, a.readable, a.vol1, a.open_access, a.size, a.kinds, a.ermap, a.slots, a.extents, a.names)
 
 -- the kinds of the sectors, and the slots
-kind_both : (t : Bool) (r : Refusal) (c : Checked) → cond t c (Stopped r) ≡ Passed → (t ≡ true) × (c ≡ Passed)
+kind_both : (t : Bool) (r : Refusal) (c : Result ⊤ Refusal) → cond t c (Err r) ≡ Ok tt → (t ≡ true) × (c ≡ Ok tt)
 kind_both true r c h = (refl, h)
 kind_both false r c h = absurd (stopped_never r h)
 
 module _ (g : Geometry) (image : List ℕ) where
-  pub kinds_each : refusal6 g image ≡ Passed → (n : ℕ) → n < sector_count g → legal_kind g image n ≡ true
+  pub kinds_each : refusal6 g image ≡ Ok tt → (n : ℕ) → n < sector_count g → legal_kind g image n ≡ true
   unfolding kinds_from
   kinds_each h n l =
       run_each (kinds_from g image) (λ n. legal_kind g image n ≡ true) (λ left n p. kind_both (legal_kind g image n) _ (kinds_from g image left (n + 1)) p)
       (sector_count g) 0 h n (omega arith) (omega arith)
 
-  pub kinds_all : ((n : ℕ) → n < sector_count g → legal_kind g image n ≡ true) → refusal6 g image ≡ Passed
+  pub kinds_all : ((n : ℕ) → n < sector_count g → legal_kind g image n ≡ true) → refusal6 g image ≡ Ok tt
   unfolding kinds_from
   kinds_all h =
       run_all (kinds_from g image) (λ n. legal_kind g image n ≡ true) (λ n. refl) (λ left n q p. rw q p) (sector_count g) 0 (λ n l m. h n (omega arith))
 
-  pub slots_each : refusal8to10 g image ≡ Passed → (slot : ℕ) → 1 ≤ slot → slot ≤ slot_count g → slot_refusal g image slot ≡ Passed
+  pub slots_each : refusal8to10 g image ≡ Ok tt → (slot : ℕ) → 1 ≤ slot → slot ≤ slot_count g → slot_refusal g image slot ≡ Ok tt
   unfolding slots_from
   slots_each h slot l m =
-      run_each (slots_from g image) (λ n. slot_refusal g image n ≡ Passed) (λ left n p. else_both (slot_refusal g image n) _ p)
+      run_each (slots_from g image) (λ n. slot_refusal g image n ≡ Ok tt) (λ left n p. else_both (slot_refusal g image n) _ p)
       (slot_count g) 1 h slot l (omega arith)
 
-  pub slots_all : ((slot : ℕ) → 1 ≤ slot → slot ≤ slot_count g → slot_refusal g image slot ≡ Passed) → refusal8to10 g image ≡ Passed
+  pub slots_all : ((slot : ℕ) → 1 ≤ slot → slot ≤ slot_count g → slot_refusal g image slot ≡ Ok tt) → refusal8to10 g image ≡ Ok tt
   unfolding slots_from or_else
   slots_all h =
-      run_all (slots_from g image) (λ n. slot_refusal g image n ≡ Passed) (λ n. refl) (λ left n q p. rw q p) (slot_count g) 1 (λ n l m. h n l (omega arith))
+      run_all (slots_from g image) (λ n. slot_refusal g image n ≡ Ok tt) (λ n. refl) (λ left n q p. rw q p) (slot_count g) 1 (λ n l m. h n l (omega arith))
 
   -- one slot
-  pub label_right : (slot : ℕ) → slot_refusal g image slot ≡ Passed → is_label g image slot ≡ true → label_fault g (label_at g image slot) ≡ 0
+  pub label_right : (slot : ℕ) → slot_refusal g image slot ≡ Ok tt → is_label g image slot ≡ true → label_fault g (label_at g image slot) ≡ 0
   unfolding slot_refusal
   label_right slot h l =
       let (r8, (r9, (r10, _))) = order_each _ h in
@@ -196,7 +193,7 @@ module _ (g : Geometry) (image : List ℕ) where
       let v = and_l (valid_mark g image (slot_ordinal slot)) _ l in
       rw (valid_sound g image (slot_ordinal slot) v, valid_correct g image (slot_ordinal slot) v)
 
-  pub label_passes : (slot : ℕ) → is_label g image slot ≡ true → label_fault g (label_at g image slot) ≡ 0 → slot_refusal g image slot ≡ Passed
+  pub label_passes : (slot : ℕ) → is_label g image slot ≡ true → label_fault g (label_at g image slot) ≡ 0 → slot_refusal g image slot ≡ Ok tt
   unfolding slot_refusal given_when
   label_passes slot l f = order_all _ (rw (readable slot l), (rw l, (rw (l, f), tt)))
 
@@ -209,7 +206,7 @@ none_below clash slot (suc n) lower h l m =
     (λ (e : lower ≡ suc n). subst (λ (x : ℕ). clash slot x ≡ false) (sym e) (or_l (clash slot (suc n)) _ h))
     (λ (k : lower < suc n). none_below clash slot n lower (or_r (clash slot (suc n)) _ h) l (omega arith))
 
-pub none_clash : (clash : ℕ → ℕ → Bool) (number count : ℕ) → clashes_from clash number count 1 ≡ Passed
+pub none_clash : (clash : ℕ → ℕ → Bool) (number count : ℕ) → clashes_from clash number count 1 ≡ Ok tt
     → (slot lower : ℕ) → 1 ≤ lower → lower < slot → slot ≤ count → clash slot lower ≡ false
 unfolding clashes_from
 none_clash clash number count h slot lower l m k =
@@ -226,7 +223,7 @@ below_none clash slot (suc n) h =
     rw (h (suc n) (omega arith) (omega arith)) (below_none clash slot n (λ lower l m. h lower l (omega arith)))
 
 pub clash_none : (clash : ℕ → ℕ → Bool) (number count : ℕ)
-    → ((slot lower : ℕ) → 1 ≤ lower → lower < slot → slot ≤ count → clash slot lower ≡ false) → clashes_from clash number count 1 ≡ Passed
+    → ((slot lower : ℕ) → 1 ≤ lower → lower < slot → slot ≤ count → clash slot lower ≡ false) → clashes_from clash number count 1 ≡ Ok tt
 unfolding clashes_from
 clash_none clash number count h =
     run_all (clashes_from clash number) (λ n. clashes_below clash n (n - 1) ≡ false) (λ n. refl) (λ left n q p. rw q p) count 1

@@ -1,6 +1,6 @@
 -- What the rules of a label say of its numbers.
 -- Assumes nothing.
-use Rattle.std.specs.Prelude.{◌/◌, ℕ, ◌*◌, ◌%◌, ◌<◌, ◌≤◌, ◌≡◌, Bool, ◌&&◌, ◌||◌, List, leb}
+use Rattle.std.specs.Prelude.{◌/◌, ℕ, ◌*◌, ◌%◌, ◌<◌, ◌≤◌, ◌≡◌, Bool, ◌&&◌, ◌||◌, List, leb, Ok}
 use Rattle.std.proofs.Math.Path.{refl, ap}
 use Rattle.std.proofs.Common.{◌∙◌, arith}
 use Rattle.std.proofs.Math.Bool.{true, false, cond, not}
@@ -15,7 +15,6 @@ use Rattle.standard.specs.Layout.{label_at}
 use Rattle.standard.specs.Slots.{has_label}
 use Rattle.standard.specs.Judgement.{judged}
 use Rattle.standard.specs.declared.Geometry.{Geometry}
-use Rattle.standard.specs.declared.Judged.TheVariants.{Volume}
 use Rattle.promises.specs.Ground.Basics.{by_test, true_not_false, and_l, and_r, or_rest, applies, applies_both}
 use Rattle.promises.specs.Volumes.Judging.{rows_each}
 use Rattle.promises.specs.Volumes.AcceptedLaws.{label_faultless}
@@ -49,7 +48,7 @@ rules g h z kn =
     }
 
 -- of a label of an accepted image that refusals 13 and 14 pass
-pub label_rules : (image : List ℕ) (g : Geometry) (slot : ℕ) → judged image ≡ Volume g → has_label g image slot ≡ true → known_level (label_at g image slot) ≡ true
+pub label_rules : (image : List ℕ) (g : Geometry) (slot : ℕ) → judged image ≡ Ok g → has_label g image slot ≡ true → known_level (label_at g image slot) ≡ true
     → Rules g (label_at g image slot)
 label_rules image g slot j l kn = rules g (label_at g image slot) (label_faultless image g slot j l) kn
 

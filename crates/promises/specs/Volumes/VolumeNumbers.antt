@@ -1,6 +1,6 @@
 -- The numbers of an accepted volume, and where its label slots lie.
 -- Assumes nothing.
-use Rattle.std.specs.Prelude.{ℕ, ◌+◌, ◌-◌, ◌*◌, ◌^◌, ◌<◌, ◌≤◌, ◌≡◌, refl, Bool, true, false, cond, not, ◌&&◌, ◌||◌, List, length, leb, ltb, eqb}
+use Rattle.std.specs.Prelude.{ℕ, ◌+◌, ◌-◌, ◌*◌, ◌^◌, ◌<◌, ◌≤◌, ◌≡◌, refl, Bool, true, false, cond, not, ◌&&◌, ◌||◌, List, length, leb, ltb, eqb, Ok}
 use Rattle.std.proofs.Common.{subst, arith, mul-le-mul, mul-le-mul_right, ltb-false, leb-true, eqb-true, ltb-true}
 use Rattle.std.proofs.Math.Nat.{one-le-pow, pow-le-pow_right}
 use Rattle.standard.specs.Layout.{sector_count, index_sectors, image_length, slot_count, slot_ordinal, label_offset, vol1_of, ermap_of}
@@ -10,8 +10,6 @@ use Rattle.standard.specs.Judgement.{numbers_in, volume_of, refusal3, judged}
 use Rattle.standard.specs.Defects.{ermap_rule7, ermap_rule11, ermap_rules, defect1, defect2, is_cylinder, cylinder_in}
 use Rattle.standard.specs.Rules.{lowest_fault}
 use Rattle.standard.specs.declared.Geometry.{Geometry}
-use Rattle.standard.specs.declared.Checked.TheVariants.{Passed}
-use Rattle.standard.specs.declared.Judged.TheVariants.{Volume}
 use Rattle.promises.specs.Ground.Basics.{true_not_false, and_l, and_r}
 use Rattle.promises.specs.Images.Tiling.{size_index, sector_in_image}
 use Rattle.promises.specs.Volumes.Judging.{not_given, rows_each, accepted}
@@ -73,10 +71,10 @@ of_rules image z =
     }
 
 -- where 3 is not given VOL1 has no fault
-pub vol1_right : (v : List ℕ) → refusal3 v ≡ Passed → lowest_fault (vol1_rules v) ≡ 0
+pub vol1_right : (v : List ℕ) → refusal3 v ≡ Ok tt → lowest_fault (vol1_rules v) ≡ 0
 vol1_right v h = omega (arith, ltb-false 0 (lowest_fault (vol1_rules v)) (not_given (ltb 0 (lowest_fault (vol1_rules v))) _ h))
 
-pub numbers_of_lem : (image : List ℕ) (g : Geometry) → judged image ≡ Volume g → Numbers g
+pub numbers_of_lem : (image : List ℕ) (g : Geometry) → judged image ≡ Ok g → Numbers g
 numbers_of_lem image g j =
     let a = accepted image g j in
     subst Numbers a.numbers (of_rules image (vol1_right (vol1_of image) a.vol1))
@@ -124,13 +122,13 @@ unfolding ermap_rules
 ermap_pair L e z = let (r1, (r7, (r11, _))) = rows_each _ z refl in of_fields L e r7 r11
 
 -- ERMAP of an accepted volume has no fault
-pub ermap_right : (image : List ℕ) (g : Geometry) → judged image ≡ Volume g → lowest_fault (ermap_rules g.L (ermap_of image)) ≡ 0
+pub ermap_right : (image : List ℕ) (g : Geometry) → judged image ≡ Ok g → lowest_fault (ermap_rules g.L (ermap_of image)) ≡ 0
 ermap_right image g j =
     let a = accepted image g j in
     let n = not_given (ltb 0 (lowest_fault (ermap_rules g.L (ermap_of image)))) _ a.ermap in
     omega (arith, ltb-false 0 (lowest_fault (ermap_rules g.L (ermap_of image))) n)
 
-pub defects_of : (image : List ℕ) (g : Geometry) → judged image ≡ Volume g → Pair g.L g.d1 g.d2
+pub defects_of : (image : List ℕ) (g : Geometry) → judged image ≡ Ok g → Pair g.L g.d1 g.d2
 unfolding numbers_in
 defects_of image g j =
     subst (λ (x : Geometry). Pair g.L x.d1 x.d2) (accepted image g j).numbers (ermap_pair g.L (ermap_of image) (ermap_right image g j))
@@ -157,7 +155,7 @@ label_room g slot n l =
     omega (arith, sector_in_image g (slot_ordinal slot) (omega arith), size_index g (slot_ordinal slot) i)
 
 -- "from 1,548 to 5,283,408" bytes: an accepted image is neither shorter nor longer
-pub image_range : (image : List ℕ) (g : Geometry) → judged image ≡ Volume g → (1548 ≤ length image) × (length image ≤ 5283408)
+pub image_range : (image : List ℕ) (g : Geometry) → judged image ≡ Ok g → (1548 ≤ length image) × (length image ≤ 5283408)
 unfolding image_length
 image_range image g j =
     let n = numbers_of_lem image g j in

@@ -1,6 +1,6 @@
 -- Demand 2, the volume: of an accepted volume, every label's extent is in range, and no two labels' extents share a physical record.
 -- Assumes nothing.
-use Rattle.std.specs.Prelude.{ℕ, ◌+◌, ◌<◌, ◌≤◌, ◌≡◌, true, length}
+use Rattle.std.specs.Prelude.{ℕ, ◌+◌, ◌<◌, ◌≤◌, ◌≡◌, true, length, Ok}
 use Rattle.std.proofs.Common.{subst, arith}
 use mathlib.Core.List.{List, Memᴰ}
 use Rattle.standard.specs.Layout.{index_sectors, sector_count, body_offset, label_at}
@@ -13,7 +13,6 @@ use Rattle.standard.specs.Judgement.{judged}
 use Rattle.standard.specs.Defects.{physical}
 use Rattle.standard.specs.declared.Geometry.{Geometry}
 use Rattle.standard.specs.declared.Address.{Address}
-use Rattle.standard.specs.declared.Judged.TheVariants.{Volume}
 use Rattle.promises.specs.Ground.Lists.{every_member}
 use Rattle.promises.specs.Images.AddressLaws.{ordinal_ge, ordinal_inj, skips_first, skips_second}
 use Rattle.promises.specs.Images.Tiling.{address_inside, address_room}
@@ -40,7 +39,7 @@ pub record RecordInRange (image : List ℕ) (g : Geometry) (a : Address) : Type 
   pub not_first_defect : 0 < g.d1 → physical g a.cylinder ≡ g.d1 → ⊥
   pub not_second_defect : 0 < g.d2 → physical g a.cylinder ≡ g.d2 → ⊥
 
-pub extent_in_range : (image : List ℕ) (g : Geometry) (slot : ℕ) (a : Address) → judged image ≡ Volume g → has_label g image slot ≡ true
+pub extent_in_range : (image : List ℕ) (g : Geometry) (slot : ℕ) (a : Address) → judged image ≡ Ok g → has_label g image slot ≡ true
     → Memᴰ a (extent g (label_at g image slot)) → RecordInRange image g a
 extent_in_range image g slot a j h m =
     let l = (in_extent_lem g (label_at g image slot) a (label_in_range image g slot j h) m).0 in
@@ -54,7 +53,7 @@ extent_in_range image g slot a j h m =
     }
 
 -- NO TWO LABELS' EXTENTS SHARE A PHYSICAL RECORD: where records of two extents are in one sector, the two labels are one.
-pub no_record_shared : (image : List ℕ) (g : Geometry) (slot other : ℕ) (a b : Address) → judged image ≡ Volume g
+pub no_record_shared : (image : List ℕ) (g : Geometry) (slot other : ℕ) (a b : Address) → judged image ≡ Ok g
     → has_label g image slot ≡ true → has_label g image other ≡ true
     → Memᴰ a (extent g (label_at g image slot)) → Memᴰ b (extent g (label_at g image other))
     → ordinal g a ≡ ordinal g b → slot ≡ other
@@ -65,6 +64,6 @@ no_record_shared image g slot other a b j hs ho ma mb e =
     labels_apart image g slot other (rank g b) j hs ho (subst (λ (c : Address). in_extent g (label_at g image slot) (rank g c) ≡ true) q x.1) y.1
 
 -- the file in a slot of an accepted volume, as the readings have it
-pub file_at_lem : (image : List ℕ) (g : Geometry) (slot : ℕ) → judged image ≡ Volume g → file_at image slot ≡ file_in g image (label_at g image slot)
+pub file_at_lem : (image : List ℕ) (g : Geometry) (slot : ℕ) → judged image ≡ Ok g → file_at image slot ≡ file_in g image (label_at g image slot)
 unfolding file_at
 file_at_lem image g slot j = rw (accepted image g j).numbers

@@ -1,7 +1,7 @@
 -- HOW MANY BLOCKS A WRITE NEEDS, counted from the lengths alone: where a writer stands after some lengths. proofs/Writing/NeededLaws says that it is the number of the
 -- definitions.
 -- Assumes nothing.
-use Rattle.std.specs.Prelude.{ℕ, zero, suc, ◌+◌, ◌-◌, ◌*◌, ◌/◌, ◌≤◌, ◌≡◌, Bool, true, false, cond, List, [], ◌∷◌, length, leb}
+use Rattle.std.specs.Prelude.{ℕ, zero, suc, ◌+◌, ◌-◌, ◌*◌, ◌/◌, ◌≤◌, ◌≡◌, Bool, true, false, cond, List, [], ◌∷◌, leb}
 use Rattle.standard.specs.Labels.{Format, fixed, variable, spanned}
 use Rattle.promises.specs.Ground.Lists.{Every}
 

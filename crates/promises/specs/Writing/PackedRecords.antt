@@ -1,6 +1,6 @@
 -- Records packed under a label's rules: the sizes of the blocks, U, and the reading of them.
 -- Assumes nothing.
-use Rattle.std.specs.Prelude.{ℕ, zero, suc, ◌+◌, ◌-◌, ◌*◌, ◌/◌, ◌%◌, ◌<◌, ◌≤◌, ◌≡◌, refl, Bool, true, false, not, ◌&&◌, length, drop, leb, ltb, eqb}
+use Rattle.std.specs.Prelude.{ℕ, zero, suc, ◌+◌, ◌-◌, ◌*◌, ◌/◌, ◌%◌, ◌<◌, ◌≤◌, ◌≡◌, refl, Bool, true, false, not, ◌&&◌, length, drop, leb, ltb, eqb, Ok}
 use Rattle.std.proofs.Common.{sym, ap, subst, ◌∙◌, length-append, length-drop, length-take-le, arith, not-suc-le-zero, le_refl, div-add-mod', leb-true, leb-false, ltb-false, le-leb, eqb-true, ne_eqb}
 use mathlib.Core.List.{List, [], ◌∷◌, map}
 use Rattle.std.proofs.lemmas.List.{length-replicate}
@@ -13,7 +13,6 @@ use Rattle.standard.specs.Packing.{Packing, unused_in, lay_f, record_v, lay_one,
 use Rattle.standard.specs.Refusals.{refuse}
 use Rattle.standard.specs.Writing.{total, parted, wrong_in, wrong_length, lengths_from}
 use Rattle.standard.specs.declared.Geometry.{Geometry}
-use Rattle.standard.specs.declared.Checked.TheVariants.{Passed}
 use Rattle.promises.specs.Ground.Basics.{either, lt_or_le, true_not_false, or_l, or_r, or_right}
 use Rattle.promises.specs.Ground.Lists.{Every, every_map}
 use Rattle.promises.specs.Images.Tiling.{lengths}
@@ -195,7 +194,7 @@ right_s R bl B e low most (x ∷ xs) v =
     }
 
 -- ---- refusals 25 and 26 not given
-lengths_fit : (h : List ℕ) (i : ℕ) (lengths bodies : List ℕ) → lengths_from h i lengths ≡ Passed → total lengths ≡ length bodies
+lengths_fit : (h : List ℕ) (i : ℕ) (lengths bodies : List ℕ) → lengths_from h i lengths ≡ Ok tt → total lengths ≡ length bodies
     → Every (λ x. wrong_length h (length x) ≡ false) (parted bodies lengths)
 unfolding lengths_from total parted
 lengths_fit h i [] bodies p e = tt
@@ -229,7 +228,7 @@ fits_s B R bl l =
     (λ x v. (or_l (ltb 0 R && ltb R (length x)) _ v, least_fits B l x (or_r (ltb 0 R && ltb R (length x)) _ v)))
 
 -- WHAT IS PACKED UNDER A LABEL'S RULES
-pub packed_right : (g : Geometry) (h bodies lengths : List ℕ) → Rules g h → lengths_from h 0 lengths ≡ Passed → total lengths ≡ length bodies
+pub packed_right : (g : Geometry) (h bodies lengths : List ℕ) → Rules g h → lengths_from h 0 lengths ≡ Ok tt → total lengths ≡ length bodies
     → Right (format_of h) (record_length h) (is_blocked h) (block_length h) (parted bodies lengths)
 unfolding wrong_length
 packed_right g h bodies lengths r p e = go (shape h r.r40) (lengths_fit h 0 lengths bodies p e)

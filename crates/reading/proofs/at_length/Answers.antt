@@ -14,18 +14,18 @@ pub returns-then-not-fits : goal.returns-then-not-fits
 returns-then-not-fits c =
     let x = c.args in
     let p = c.requires in
-    answers_no x.image.now x.f p.0 x.out.now (met_from x.image.now x.f x.salvage x.w []) x.x _ p.3 (sym c.fits.ensures ∙ not-true _ c.if-not-fits.true-raw) c.answered.ensures
+    answers_no x.image.now x.f p.0 x.out.now (met_from x.image.now x.f x.mode x.w []) x.x _ p.3 (sym c.fits.ensures ∙ not-true _ c.if-not-fits.true-raw) c.answered.ensures
 
 pub deliver-requires : goal.deliver-requires
 deliver-requires c =
     let x = c.args in
     let p = c.requires in
     let h = sym c.fits.ensures ∙ not-false _ c.if-not-fits.false-raw in
-    (p.0, p.1, p.2, room_for (file_of x.image.now x.f) (length x.out.now) (met_from x.image.now x.f x.salvage x.w []) (ap (fits_in (length x.out.now)) (sym p.3) ∙ h))
+    (p.0, p.1, p.2, room_for (file_of x.image.now x.f) (length x.out.now) (met_from x.image.now x.f x.mode x.w []) (ap (fits_in (length x.out.now)) (sym p.3) ∙ h))
 
 pub returns : goal.returns
 returns c =
     let x = c.args in
     let p = c.requires in
     let h = sym c.fits.ensures ∙ not-false _ c.if-not-fits.false-raw in
-    answers_yes x.image.now x.f p.0 x.out.now (met_from x.image.now x.f x.salvage x.w []) x.x _ _ p.3 h c.answered-2.ensures c.deliver.ensures
+    answers_yes x.image.now x.f p.0 x.out.now (met_from x.image.now x.f x.mode x.w []) x.x _ _ p.3 h c.answered-2.ensures c.deliver.ensures

@@ -4,7 +4,7 @@ use Rattle.reading.proofs.MeetingLaws.{Delivering}
 use Rattle.reading.proofs.deliver.Given as goal
 
 abbrev pub invariant-loop-w : goal.invariant-loop-w
-invariant-loop-w l = Delivering l.image l.f l.salvage l.initial.w l.fn.out l.w l.out
+invariant-loop-w l = Delivering l.image l.f l.mode l.initial.w l.fn.out l.w l.out
 
 abbrev pub decreases-loop-w : goal.decreases-loop-w
 decreases-loop-w l = to_go l.f l.w

@@ -10,7 +10,7 @@ pub loop-w-init : goal.loop-w-init
 loop-w-init c =
     let x = c.args in
     let p = c.requires in
-    (p.1, same_start x.image.now x.f x.salvage x.from)
+    (p.1, same_start x.image.now x.f x.mode x.from)
 
 pub take_turn-t-requires : goal.take_turn-t-requires
 take_turn-t-requires c =
@@ -24,25 +24,25 @@ returns-in-Done c =
     let x = c.args in
     let p = c.requires in
     let l = c.loop-w in
-    measures_done x.image.now x.f x.salvage l.w x.from _ _ c.take_turn-t.ensures c.in-Done.is l.invariant.1
+    measures_done x.image.now x.f x.mode l.w x.from _ _ c.take_turn-t.ensures c.in-Done.is l.invariant.1
 
 pub loop-w-smaller : goal.loop-w-smaller
 loop-w-smaller c =
     let x = c.args in
     let p = c.requires in
     let l = c.loop-w in
-    (turned_less x.image.now x.f x.salvage l.w _ _ c.take_turn-t.ensures c.in-On.is).1
+    (turned_less x.image.now x.f x.mode l.w _ _ c.take_turn-t.ensures c.in-On.is).1
 
 pub loop-w-preserved : goal.loop-w-preserved
 loop-w-preserved c =
     let x = c.args in
     let p = c.requires in
     let l = c.loop-w in
-    ((turned_less x.image.now x.f x.salvage l.w _ _ c.take_turn-t.ensures c.in-On.is).0, same_on x.image.now x.f x.salvage l.w x.from _ _ c.take_turn-t.ensures c.in-On.is l.invariant.1)
+    ((turned_less x.image.now x.f x.mode l.w _ _ c.take_turn-t.ensures c.in-On.is).0, same_on x.image.now x.f x.mode l.w x.from _ _ c.take_turn-t.ensures c.in-On.is l.invariant.1)
 
 pub returns : goal.returns
 returns c =
     let x = c.args in
     let p = c.requires in
     let l = c.loop-w in
-    subst (Measures x.image.now x.f x.salvage x.from) (sym c.at_end.ensures) (measures_end x.image.now x.f x.salvage p.0 l.w x.from (omega arith) l.invariant.1)
+    subst (Measures x.image.now x.f x.mode x.from) (sym c.at_end.ensures) (measures_end x.image.now x.f x.mode p.0 l.w x.from (omega arith) l.invariant.1)

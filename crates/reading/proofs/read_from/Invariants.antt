@@ -7,7 +7,7 @@ use Rattle.walks.specs.Walks.{met_from, Walking, to_go}
 use Rattle.reading.proofs.read_from.Given as goal
 
 abbrev pub invariant-loop-w : goal.invariant-loop-w
-invariant-loop-w l = (Walking l.image l.f l.w) × (length_of l.w.stand ≡ 0) × (met_from l.image l.f l.salvage l.w [] ≡ met_from l.image l.f l.salvage l.initial.w []) × (l.out ≡ l.fn.out) × (length l.out ≡ length l.fn.out)
+invariant-loop-w l = (Walking l.image l.f l.w) × (length_of l.w.stand ≡ 0) × (met_from l.image l.f l.mode l.w [] ≡ met_from l.image l.f l.mode l.initial.w []) × (l.out ≡ l.fn.out) × (length l.out ≡ length l.fn.out)
 
 abbrev pub decreases-loop-w : goal.decreases-loop-w
 decreases-loop-w l = to_go l.f l.w

@@ -1,8 +1,8 @@
 -- A place of an opened file.
 -- Assumes nothing.
+use Rattle.std.specs.Prelude.{Err}
 use mathlib.Core.Path.{sym, ap, ◌∙◌}
 use borrow.Author.Tests.{not-true, not-false}
-use Rattle.standard.specs.declared.Answer.TheVariants.{Unanswered}
 use Rattle.labels.specs.Forms.{format_for}
 use Rattle.opening.specs.Opened.{file_of}
 use Rattle.opening.proofs.OpenedLaws.{facts, inside_is}
@@ -19,9 +19,9 @@ returns-then-not-in_file c =
     let x = c.args in
     let p = c.requires in
     let r =
-    answer_19 (mode_of x.salvage) (file_of x.image.now x.f) x.place x.out.now
+    answer_19 (mode_of x.mode) (file_of x.image.now x.f) x.place x.out.now
     (sym (inside_is x.image.now x.f p.0 x.place) ∙ (sym c.in_file.ensures ∙ not-true _ c.if-not-in_file.true-raw)) in
-    (ap Unanswered c.at.ensures ∙ r.0, r.1, p.1)
+    (ap Err c.at.ensures ∙ r.0, r.1, p.1)
 
 pub seat_at-s-requires : goal.seat_at-s-requires
 seat_at-s-requires c =
@@ -43,6 +43,6 @@ returns c =
     let p = c.requires in
     let w : Walk = record { place = x.place; at = c.seat_at-s.result.at; stand = c.stand_at.result } in
     let inside = sym (inside_is x.image.now x.f p.0 x.place) ∙ (sym c.in_file.ensures ∙ not-false _ c.if-not-in_file.false-raw) in
-    let met = step_from x.image.now x.f x.salvage w (format_for x.f.form) (format_is x.image.now x.f p.0) c.stand_at.ensures.0 in
-    let r = answer_step x.image.now x.f (mode_of x.salvage) x.place _ x.out.now _ _ inside met c.read_from.ensures in
+    let met = step_from x.image.now x.f x.mode w (format_for x.f.form) (format_is x.image.now x.f p.0) c.stand_at.ensures.0 in
+    let r = answer_step x.image.now x.f (mode_of x.mode) x.place _ x.out.now _ _ inside met c.read_from.ensures in
     (r.0, r.1, seat_same x.image.now x.f _ x.place.block c.seat_at-s.ensures.1 c.seat_at-s.ensures.0)

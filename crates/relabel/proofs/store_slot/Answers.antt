@@ -1,17 +1,8 @@
 -- The kind, and then the bytes.
 -- Assumes nothing.
-use lib.ListN.{length-set}
 use native.Mathlib.Omega.{arith}
 use Rattle.relabel.proofs.SpliceLaws.{store_both}
 use Rattle.relabel.proofs.store_slot.Goals as goal
-
-pub lay_at-requires : goal.lay_at-requires
-lay_at-requires c = simp length-set (omega arith)
-
-pub shape_of-image : goal.shape_of-image
-shape_of-image c =
-    let x = c.args in
-    omega (arith, length-set x.image.now c.slot_offset-at.result c.slot_mark.result)
 
 pub returns : goal.returns
 returns c =

@@ -7,16 +7,16 @@ use Rattle.checks.proofs.PartLaws.{format_is}
 use Rattle.rules.specs.Tables.{known_rows}
 use Rattle.rules.proofs.fault_from_23.Goals as goal
 
-pub block_in-sized-requires : goal.block_in-sized-requires
-block_in-sized-requires c = search (rules, format_is)
+pub block_in-requires : goal.block_in-requires
+block_in-requires c = search (rules, format_is)
 
 pub returns-in_default : goal.returns-in_default
 unfolding known_rows
 returns-in_default c = search (rows, read-rows, format_is)
 
-pub returns-in_default-read : goal.returns-in_default-read
+pub returns-in_default-start_in : goal.returns-in_default-start_in
 unfolding known_rows
-returns-in_default-read c = search (rows, read-rows, format_is)
+returns-in_default-start_in c = search (rows, read-rows, format_is)
 
 pub end_right-requires : goal.end_right-requires
 end_right-requires c = search (rules, read_number, read_holds)

@@ -7,8 +7,8 @@ use Rattle.fields.proofs.RowLaws.{rows, read-rows}
 use Rattle.rules.specs.Tables.{known_rows}
 use Rattle.rules.proofs.fault_from_54.Goals as goal
 
-pub record_in-read-requires : goal.record_in-read-requires
-record_in-read-requires c = search (rules, blocked_is)
+pub record_in-requires : goal.record_in-requires
+record_in-requires c = search (rules, blocked_is)
 
 pub returns-in_default : goal.returns-in_default
 unfolding known_rows

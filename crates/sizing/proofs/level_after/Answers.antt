@@ -11,25 +11,23 @@ use Rattle.sizing.proofs.level_after.Goals as goal
 pub place-l-requires : goal.place-l-requires
 place-l-requires c =
     let x = c.args in
-    let w = c.loop-i in
-    let d = total_drop x.lengths.now w.i (omega arith) in
-    let f = fits_at (format_for x.form) x.B x.lengths.now w.i (omega arith) c.requires.0 in
-    let e = c.length_at.ensures in
-    (subst (FitsIn (format_for x.form) x.B) (sym e.0) f, omega (arith, d, w.invariant.3, e.0), w.invariant.2, omega arith, e.1)
+    let w = c.loop-n in
+    let d = total_drop x.lengths.now w.n-index (omega arith) in
+    let f = fits_at (format_for x.form) x.B x.lengths.now w.n-index (omega arith) c.requires.0 in
+    (subst (FitsIn (format_for x.form) x.B) (sym c.from.ensures) f, omega (arith, d), w.invariant.1, omega arith, omega arith)
 
-pub loop-i-preserved : goal.loop-i-preserved
-loop-i-preserved c =
+pub loop-n-preserved : goal.loop-n-preserved
+loop-n-preserved c =
     let x = c.args in
-    let w = c.loop-i in
-    let d = total_drop x.lengths.now w.i (omega arith) in
-    let e = c.length_at.ensures in
-    let p = c.place-l.ensures in
-    let f = format_for x.form in
-    (omega arith, w.invariant.1 ∙ level_to f x.blocked x.B w.l.room w.l.blocks x.lengths.now w.i c.place-l.result c.length_at.result (omega arith) e.0 p.0, p.1, omega (arith, d, e.0, p.2, w.invariant.3))
+    let w = c.loop-n in
+    let d = total_drop x.lengths.now w.n-index (omega arith) in
+    let p = c.place-l in
+    let e = level_to (format_for x.form) x.blocked x.B w.l.room w.l.blocks x.lengths.now w.n-index p.result c.from.result (omega arith) c.from.ensures p.ensures.0 in
+    (w.invariant.0 ∙ e, p.ensures.1, omega (arith, d, p.ensures.2))
 
 pub returns : goal.returns
 returns c =
     let x = c.args in
-    let w = c.loop-i in
-    let e = w.invariant.1 ∙ level_none (format_for x.form) x.blocked x.B w.l.room w.l.blocks x.lengths.now w.i (omega arith) in
+    let w = c.loop-n in
+    let e = w.invariant.0 ∙ level_none (format_for x.form) x.blocked x.B w.l.room w.l.blocks x.lengths.now w.n-index (omega arith) in
     stands_as w.l e (refl, refl)

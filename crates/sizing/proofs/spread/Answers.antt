@@ -9,24 +9,6 @@ use Rattle.promises.proofs.Writing.NeededLaws.{spread_ends, spread_goes_on}
 use Rattle.sizing.proofs.LevelLaws.{takes_one, stands_as}
 use Rattle.sizing.proofs.spread.Goals as goal
 
-pub overflow_sub-n : goal.overflow_sub-n
-overflow_sub-n c =
-    let x = c.args in
-    let w = c.loop-room in
-    omega (arith, takes_one x.B w.room w.n (omega arith) w.invariant.1 w.invariant.2)
-
-pub overflow_add-blocks : goal.overflow_add-blocks
-overflow_add-blocks c =
-    let x = c.args in
-    let w = c.loop-room in
-    omega (arith, takes_one x.B w.room w.n (omega arith) w.invariant.1 w.invariant.2)
-
-pub loop-room-smaller : goal.loop-room-smaller
-loop-room-smaller c =
-    let x = c.args in
-    let w = c.loop-room in
-    omega (arith, takes_one x.B w.room w.n (omega arith) w.invariant.1 w.invariant.2)
-
 pub loop-room-preserved : goal.loop-room-preserved
 loop-room-preserved c =
     let x = c.args in

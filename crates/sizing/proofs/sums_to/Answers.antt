@@ -8,18 +8,14 @@ use Rattle.sizing.proofs.sums_to.Goals as goal
 pub returns-then-left-n : goal.returns-then-left-n
 returns-then-left-n c =
     let x = c.args in
-    let w = c.loop-i in
-    sum_over x.lengths.now w.i w.left x.size c.length_at-n.result (omega arith) c.length_at-n.ensures.0 w.invariant.1 (omega arith)
+    let w = c.loop-length in
+    sum_over x.lengths.now w.length-index w.left x.size c.from-n.result (omega arith) c.from-n.ensures w.invariant (omega arith)
 
-pub loop-i-preserved : goal.loop-i-preserved
-loop-i-preserved c =
-    let x = c.args in
-    let w = c.loop-i in
-    let d = total_drop x.lengths.now w.i (omega arith) in
-    (omega arith, omega (arith, d, w.invariant.1, c.length_at-n.ensures.0))
+pub loop-length-preserved : goal.loop-length-preserved
+loop-length-preserved c = omega (arith, total_drop c.args.lengths.now c.loop-length.length-index (omega arith))
 
 pub returns : goal.returns
 returns c =
     let x = c.args in
-    let w = c.loop-i in
-    sum_end x.lengths.now w.i w.left x.size (omega arith) w.invariant.1
+    let w = c.loop-length in
+    sum_end x.lengths.now w.length-index w.left x.size (omega arith) w.invariant

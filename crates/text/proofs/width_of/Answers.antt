@@ -1,12 +1,8 @@
 -- The digits counted, and those of what is left, are all.
 -- Assumes nothing.
 use native.Mathlib.Omega.{arith}
-use borrow.Author.Rules.{rules}
 use Rattle.text.proofs.Digits.{length_more, length_one, shown_bounded}
 use Rattle.text.proofs.width_of.Goals as goal
-
-pub loop-m-init : goal.loop-m-init
-loop-m-init c = (search rules, omega arith)
 
 pub overflow_add-width : goal.overflow_add-width
 overflow_add-width c = omega (arith, shown_bounded c.args.n c.loop-m.invariant.0)

@@ -1,10 +1,8 @@
 -- Digit after digit is taken off.
+use Prim.Native.Nat.{◌-◌}
 use mathlib.Core.Path.{◌≡◌}
 use Rattle.text.specs.Laid.{without}
 use Rattle.text.proofs.without.Given as goal
 
-abbrev pub invariant-loop-left : goal.invariant-loop-left
-invariant-loop-left l = without l.digits l.n ≡ without l.left l.m
-
-abbrev pub decreases-loop-left : goal.decreases-loop-left
-decreases-loop-left l = l.left
+abbrev pub invariant-loop : goal.invariant-loop
+invariant-loop l = without l.digits l.n ≡ without (l.digits - l.counter) l.m

@@ -1,29 +1,31 @@
 -- `lowest_deleted` meets its contract: deleted from here on is deleted from the first slot.
 -- Assumes nothing.
-use mathlib.Core.Path.{sym, ◌∙◌}
+use mathlib.Core.Path.{◌≡◌, sym, ap, ◌∙◌}
 use native.Mathlib.Omega.{arith}
-use borrow.Author.Tests.{not-true, not-false}
+use Rattle.standard.specs.Creating.{lowest_deleted}
+use Rattle.index.specs.Whole.{some_slot}
+use Rattle.index.proofs.SlotLaws.{slot_is, slot_none}
 use Rattle.vacancy.proofs.PassLaws.{deleted_start, deleted_here, deleted_more, deleted_all}
-use borrow.Author.Rules.{rules}
 use Rattle.vacancy.proofs.lowest_deleted.Goals as goal
 
-pub loop-i-init : goal.loop-i-init
-loop-i-init c = (omega arith, deleted_start _ _ _ c.slot_count-n.ensures.0)
-
-pub is_label-requires : goal.is_label-requires
-is_label-requires c = (search rules, omega arith, omega arith)
+pub loop-slot-init : goal.loop-slot-init
+loop-slot-init c = deleted_start _ _
 
 pub returns-then-not-is_label : goal.returns-then-not-is_label
 returns-then-not-is_label c =
-    let w = c.loop-i in
-    let n = c.slot_count-n in
-    (sym (w.invariant.1 ∙ deleted_here c.args.g c.args.image.now c.requires n.result w.i n.ensures.0 (omega arith) (sym c.is_label.ensures ∙ not-true _ c.if-not-is_label.true-raw)), omega arith)
+    let a = c.args in
+    let w = c.loop-slot in
+    let e = w.invariant ∙ deleted_here a.g a.image.now c.requires w.slot (omega arith) (omega arith) (sym c.is_label.ensures ∙ c.if-not-is_label.true) in
+    (slot_is w.slot (omega arith) ∙ ap some_slot (sym e), omega (arith, e))
 
-pub loop-i-preserved : goal.loop-i-preserved
-loop-i-preserved c =
-    let w = c.loop-i in
-    let n = c.slot_count-n in
-    (omega arith, w.invariant.1 ∙ deleted_more c.args.g c.args.image.now c.requires n.result w.i n.ensures.0 (omega arith) (sym c.is_label.ensures ∙ not-false _ c.if-not-is_label.false-raw))
+pub loop-slot-preserved : goal.loop-slot-preserved
+loop-slot-preserved c =
+    let a = c.args in
+    let w = c.loop-slot in
+    w.invariant ∙ deleted_more a.g a.image.now c.requires w.slot (omega arith) (omega arith) (sym c.is_label.ensures ∙ c.if-not-is_label.false)
 
 pub returns : goal.returns
-returns c = (sym (c.loop-i.invariant.1 ∙ deleted_all _ _ c.slot_count-n.result c.loop-i.i (omega arith)), omega arith)
+returns c =
+    let a = c.args in
+    let e : lowest_deleted a.g a.image.now ≡ 0 = c.loop-slot.invariant ∙ deleted_all a.g a.image.now c.loop-slot.slot (omega arith) in
+    (slot_none _ e, omega (arith, e))

@@ -7,10 +7,10 @@ use Rattle.vacancy.proofs.PassLaws.{one_before, one_behind, one_met}
 use Rattle.vacancy.proofs.past_one.Goals as goal
 
 pub returns-then-end-start : goal.returns-then-end-start
-returns-then-end-start c = (one_before _ _ _ _ _ (omega arith), omega arith)
+returns-then-end-start c = (one_before _ _ _ (omega arith), omega arith)
 
 pub returns-then-start-n : goal.returns-then-start-n
-returns-then-start-n c = (one_behind _ _ _ _ _ (omega arith) (omega arith), omega arith)
+returns-then-start-n c = (one_behind _ _ _ (omega arith) (omega arith), omega arith)
 
 pub returns : goal.returns
-returns c = (ap (λ (x : ℕ). x + 1) c.wide32-end.ensures.0 ∙ one_met _ _ _ _ _ (omega arith) (omega arith), omega arith)
+returns c = (ap (λ (x : ℕ). x + 1) c.from-end.ensures ∙ one_met _ _ _ (omega arith) (omega arith), omega arith)

@@ -7,4 +7,4 @@ use native.Mathlib.Omega.{arith}
 use Rattle.vacancy.proofs.size_in.Goals as goal
 
 pub returns : goal.returns
-returns c = (size_is _ _ _ _ _ _ c.minus.ensures (c.wide32.ensures.0 ∙ ap (λ (x : Extent). x.end) c.extent_in-x.ensures) (c.wide32-2.ensures.0 ∙ ap (λ (x : Extent). x.start) c.extent_in-x.ensures), omega arith)
+returns c = (size_is _ _ _ _ _ _ c.minus.ensures (c.from.ensures ∙ ap (λ (x : Extent). x.end) c.extent_in-x.ensures) (c.from-2.ensures ∙ ap (λ (x : Extent). x.start) c.extent_in-x.ensures), omega arith)

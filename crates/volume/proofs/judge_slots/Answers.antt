@@ -1,30 +1,32 @@
 -- `judge_slots` meets its contract: each of the three stages stops or is passed.
 -- Assumes nothing.
 use mathlib.Core.Path.{sym, ◌∙◌}
+use Rattle.standard.proofs.RefusalLaws.{handed_on}
 use Rattle.volume.proofs.StageLaws.{stop_here, go_on, all_passed}
 use native.Mathlib.Omega.{arith}
 use Rattle.volume.proofs.judge_slots.Goals as goal
 
-pub returns-in-Stopped : goal.returns-in-Stopped
-returns-in-Stopped c = stop_here _ _ 7 _ (omega arith) (sym c.slots-c.ensures ∙ c.in-Stopped.is)
+pub returns-in_err-slots : goal.returns-in_err-slots
+returns-in_err-slots c = handed_on _ _ c.from_residual.ensures ∙ stop_here _ _ 7 _ (omega arith) (sym c.slots.ensures ∙ c.in_err-slots.was)
 
-pub shared-d-requires : goal.shared-d-requires
-shared-d-requires c = record { whole = c.requires; passed = sym c.slots-c.ensures ∙ c.in_default.is }
+pub shared-requires : goal.shared-requires
+shared-requires c = record { whole = c.requires; passed = sym c.slots.ensures ∙ c.in_ok-slots.was }
 
-pub returns-in-Stopped-d : goal.returns-in-Stopped-d
-returns-in-Stopped-d c = go_on _ _ 7 _ (omega arith) (sym c.slots-c.ensures ∙ c.in_default.is) (stop_here _ _ 8 _ (omega arith) (sym c.shared-d.ensures ∙ c.in-Stopped-d.is))
+pub returns-in_err-shared : goal.returns-in_err-shared
+returns-in_err-shared c = handed_on _ _ c.from_residual-in_err-shared.ensures ∙ go_on _ _ 7 _ (omega arith) (sym c.slots.ensures ∙ c.in_ok-slots.was) (stop_here _ _ 8 _ (omega arith) (sym c.shared.ensures ∙ c.in_err-shared.was))
 
-pub named-e-requires : goal.named-e-requires
-named-e-requires c = record { whole = c.requires; passed = sym c.slots-c.ensures ∙ c.in_default.is }
+pub named-requires : goal.named-requires
+named-requires c = record { whole = c.requires; passed = sym c.slots.ensures ∙ c.in_ok-slots.was }
 
-pub returns-in-Stopped-e : goal.returns-in-Stopped-e
-returns-in-Stopped-e c =
-    go_on _ _ 7 _ (omega arith) (sym c.slots-c.ensures ∙ c.in_default.is)
-    (go_on _ _ 8 _ (omega arith) (sym c.shared-d.ensures ∙ c.in_default-d.is)
-    (stop_here _ _ 9 _ (omega arith) (sym c.named-e.ensures ∙ c.in-Stopped-e.is)))
+pub returns-in_err-named : goal.returns-in_err-named
+returns-in_err-named c =
+    handed_on _ _ c.from_residual-in_err-named.ensures
+    ∙ go_on _ _ 7 _ (omega arith) (sym c.slots.ensures ∙ c.in_ok-slots.was)
+    (go_on _ _ 8 _ (omega arith) (sym c.shared.ensures ∙ c.in_ok-shared.was)
+    (stop_here _ _ 9 _ (omega arith) (sym c.named.ensures ∙ c.in_err-named.was)))
 
 pub returns : goal.returns
 returns c =
-    go_on _ _ 7 _ (omega arith) (sym c.slots-c.ensures ∙ c.in_default.is)
-    (go_on _ _ 8 _ (omega arith) (sym c.shared-d.ensures ∙ c.in_default-d.is)
-    (go_on _ _ 9 _ (omega arith) (sym c.named-e.ensures ∙ c.in_default-e.is) (all_passed _ _)))
+    go_on _ _ 7 _ (omega arith) (sym c.slots.ensures ∙ c.in_ok-slots.was)
+    (go_on _ _ 8 _ (omega arith) (sym c.shared.ensures ∙ c.in_ok-shared.was)
+    (go_on _ _ 9 _ (omega arith) (sym c.named.ensures ∙ c.in_ok-named.was) (all_passed _ _)))

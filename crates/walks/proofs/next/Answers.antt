@@ -1,23 +1,10 @@
 -- The next block, from the seat of this one.
 -- Assumes nothing.
 use mathlib.Core.Path.{refl}
-use native.Mathlib.Omega.{arith}
-use Rattle.opening.proofs.OpenedLaws.{facts}
 use Rattle.walks.specs.declared.Walk.{Walk}
 use Rattle.walks.proofs.StandLaws.{entered_next}
 use Rattle.walks.proofs.WalkLaws.{walking_next}
 use Rattle.walks.proofs.next.Goals as goal
-
-pub overflow_add-place : goal.overflow_add-place
-overflow_add-place c =
-    let x = c.args in
-    let p = c.requires in
-    omega (arith, (facts x.image.now x.f p.0.0).count_few, p.0.2)
-
-pub seat_at-there-requires : goal.seat_at-there-requires
-seat_at-there-requires c =
-    let p = c.requires in
-    (p.0.0, p.0.1.0, omega (arith, p.0.2))
 
 pub returns : goal.returns
 returns c =

@@ -1,13 +1,9 @@
 -- The rest of the block lies in the bytes ahead of its first record.
 -- Assumes nothing.
-use Prim.Native.Nat.{ℕ, ◌-◌}
-use mathlib.Core.Path.{◌≡◌, sym, ap, ◌∙◌}
-use lib.ListN.{take}
+use mathlib.Core.Path.{ap, ◌∙◌}
 use native.Mathlib.Omega.{arith}
 use Rattle.standard.specs.Pieces.{is_fill}
-use Rattle.opening.specs.Opened.{size_at}
 use Rattle.opening.proofs.OpenedLaws.{facts}
-use Rattle.blocks.specs.Streams.{stream}
 use Rattle.walks.proofs.WalkLaws.{size_most, rest_by}
 use Rattle.walks.proofs.rest_is_fill.Goals as goal
 
@@ -17,12 +13,6 @@ content_size-requires c =
     let p = c.requires in
     let k = facts x.image.now x.f p.0.0 in
     (k.U-low, omega (arith, k.count_few, p.0.2))
-
-pub returns-then-n-eq0 : goal.returns-then-n-eq0
-returns-then-n-eq0 c =
-    let x = c.args in
-    let n : size_at x.f x.w.place.block - x.from ≡ 0 = ap (λ (k : ℕ). k - x.from) (sym c.content_size.ensures) ∙ (sym c.minus-n.ensures ∙ c.if-n-eq0.true) in
-    sym (ap (λ (k : ℕ). is_fill (take k (stream x.f.g x.image.now x.w.at x.from))) n)
 
 pub onward-s-requires : goal.onward-s-requires
 onward-s-requires c =

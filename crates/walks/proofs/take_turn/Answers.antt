@@ -8,7 +8,4 @@ pub returns-then-any_failed : goal.returns-then-any_failed
 returns-then-any_failed c =
     let x = c.args in
     let p = c.requires in
-    turned_lost x.image.now x.f x.w p x.salvage c.at_lost.result (sym c.any_failed.ensures ∙ c.if-any_failed.true) c.at_lost.ensures
-
-pub turn_in-requires : goal.turn_in-requires
-turn_in-requires c = (c.requires, sym c.any_failed.ensures ∙ c.if-any_failed.false)
+    turned_lost x.image.now x.f x.w p x.mode c.at_lost.result (sym c.any_failed.ensures ∙ c.if-any_failed.true) c.at_lost.ensures

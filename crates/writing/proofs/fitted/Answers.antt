@@ -1,11 +1,11 @@
 -- 27, or the plan, by the level behind the list.
 -- Assumes nothing.
+use Rattle.std.specs.Prelude.{Err}
 use Prim.Native.Nat.{ℕ, ◌/◌}
 use mathlib.Core.Path.{ap, ◌∙◌}
 use native.Mathlib.Omega.{arith}
 use Rattle.files.specs.Numbers.{numbers_of}
 use Rattle.files.proofs.Accepted.{ready}
-use Rattle.writing.specs.declared.Planned.TheVariants.{Stop}
 use Rattle.writing.proofs.PlanLaws.{level_ready, fit_stop, fit_go}
 use Rattle.writing.proofs.fitted.Goals as goal
 
@@ -30,7 +30,7 @@ nonzero_div-held c =
 pub returns-then-held-blocks : goal.returns-then-held-blocks
 returns-then-held-blocks c =
     let p = c.requires in
-    ap Stop c.at.ensures
+    ap Err c.at.ensures
     ∙ fit_stop _ _ _ p.0 p.1 p.2 _ p.3 _ p.5 _ c.form_of-form.ensures _ c.is_blocked-blocked.ensures _ _ c.level_after-l.ensures _ c.good_in.ensures c.if-held-blocks.true
 
 pub data_end-end-requires : goal.data_end-end-requires

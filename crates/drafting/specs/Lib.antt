@@ -1,0 +1,2 @@
+-- A condition more than a label's rules
+pub mod Added

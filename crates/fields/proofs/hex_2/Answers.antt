@@ -1,9 +1,0 @@
--- `hex_2` meets its contract: digit by digit.
--- Assumes nothing.
-use native.Mathlib.Omega.{arith}
-use borrow.Author.Rules.{rules}
-use Rattle.fields.proofs.NumberLaws.{hex_2}
-use Rattle.fields.proofs.hex_2.Goals as goal
-
-pub returns : goal.returns
-returns c = (hex_2 _ _ (search rules) (cc), omega arith)

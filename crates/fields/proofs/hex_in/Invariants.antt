@@ -1,0 +1,10 @@
+-- `hex_in` meets its contract. The invariant: the number so far goes on with the characters still to come, and its bound holds of any bytes.
+use Prim.Native.Nat.{◌+◌, ◌*◌, ◌≤◌, ◌^◌}
+use mathlib.Core.Path.{◌≡◌}
+use lib.ListN.{drop}
+use Rattle.standard.specs.Characters.{hex, hex_from}
+use Rattle.fields.proofs.hex_in.Given as goal
+
+abbrev pub invariant-loop-c : goal.invariant-loop-c
+invariant-loop-c l =
+    (l.n * 15 + 511 ≤ 511 * 16 ^ l.c-index) × (hex l.f ≡ hex_from l.n (drop l.c-index l.f))

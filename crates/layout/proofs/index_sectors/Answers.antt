@@ -1,7 +1,0 @@
--- `index_sectors` meets its contract.
--- Assumes nothing.
-use native.Mathlib.Omega.{arith}
-use Rattle.layout.proofs.index_sectors.Goals as goal
-
-pub returns : goal.returns
-returns c = (cc, omega arith)

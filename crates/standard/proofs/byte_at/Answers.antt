@@ -1,9 +1,0 @@
--- `byte_at` meets its contract: the byte, or 0 where there is none.
--- Assumes nothing.
-use mathlib.Core.Path.{sym}
-use lib.ListN.{get_or-eq_default}
-use native.Mathlib.Omega.{arith}
-use Rattle.standard.proofs.byte_at.Goals as goal
-
-pub returns : goal.returns
-returns c = (sym (get_or-eq_default c.args.s.now 0 {n = c.args.i} (omega arith)), omega arith)
