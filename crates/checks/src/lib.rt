@@ -81,7 +81,7 @@ pub fn end_right(g: Geometry, h: &[u8], start: u64) -> bool
 pub fn format_right(c: u64, f: u64) -> bool
     ensures { result ≡ format_right c f }
 {
-    one_of(f, b" FVS") & if_so((c == 32) | (c == 49), one_of(f, b" F"))
+    one_of(f, &[32, 70, 86, 83]) & if_so((c == 32) | (c == 49), one_of(f, &[32, 70]))
 }
 
 // "at least 1, 4, 5 for F, V, S"
@@ -89,9 +89,9 @@ pub fn format_right(c: u64, f: u64) -> bool
 fn block_least(f: u64, right40: bool, b: u64) -> bool
     ensures { result ≡ block_least f right40 b }
 {
-    (!right40 | (!one_of(f, b" F") | (1 <= b)))
-        & (!right40 | (!one_of(f, b"V") | (4 <= b)))
-        & (!right40 | (!one_of(f, b"S") | (5 <= b)))
+    (!right40 | (!one_of(f, &[32, 70]) | (1 <= b)))
+        & (!right40 | (!one_of(f, &[86]) | (4 <= b)))
+        & (!right40 | (!one_of(f, &[83]) | (5 <= b)))
 }
 
 // "at most D·P; above P a multiple of P; level space at most P; V and S at most 9,999 (house)."
@@ -101,7 +101,7 @@ fn block_fits(g: Geometry, c: u64, f: u64, right40: bool, b: u64) -> bool
 {
     let p = u64::from(g.P);
     let most = times::<65536>(u64::from(g.D), p);
-    let long = one_of(f, b"V") | one_of(f, b"S");
+    let long = one_of(f, &[86]) | one_of(f, &[83]);
     block_least(f, right40, b)
         & (b <= most)
         & (!(p < b) | is_multiple(b, p))
@@ -123,7 +123,7 @@ pub fn block_in(g: Geometry, h: &[u8], c: u64, f: u64, right40: bool) -> Option<
 pub fn blocked_right(c: u64, f: u64, b: u64) -> bool
     ensures { result ≡ blocked_right c f b }
 {
-    one_of(b, b" B") & (!one_of(f, b"S") | (b == 66)) & (!(c == 32) | (b == 32))
+    one_of(b, &[32, 66]) & (!one_of(f, &[83]) | (b == 66)) & (!(c == 32) | (b == 32))
 }
 
 // The number of a field that may be blank, if it is blank or has digits. It stands from a on and ends before e.
@@ -145,12 +145,12 @@ fn blank_or(blank: u64, h: &[u8], a: usize, e: usize) -> Option<u64>
 fn record_fits(c: u64, f: u64, right63: bool, blocked: bool, b: u64, r: u64) -> bool
     ensures { result ≡ record_fits c f right63 blocked b r }
 {
-    let fixed = one_of(f, b" F");
+    let fixed = one_of(f, &[32, 70]);
     (!fixed | in_range(1, b, r))
         & (!right63 | (!(fixed & !blocked) | (r == b)))
         & (!right63 | (!(fixed & blocked) | is_multiple(b, r)))
         & (!(c == 32) | (r == b))
-        & (!one_of(f, b"V") | in_range(4, b, r))
+        & (!one_of(f, &[86]) | in_range(4, b, r))
 }
 
 // "54-57 record length R; spaces mean R = B": the number, if the field is right.
@@ -166,7 +166,7 @@ pub fn record_in(g: Geometry, h: &[u8], x: Seen, b: u64, right63: bool) -> Optio
 fn unused_fits(f: u64, right63: bool, blocked: bool, b: u64, r: u64, u: u64) -> bool
     ensures { result ≡ unused_fits f right63 blocked b r u }
 {
-    (u < b) & (!right63 | (blocked | (u == 0))) & (!one_of(f, b" F") | is_multiple(u, r))
+    (u < b) & (!right63 | (blocked | (u == 0))) & (!one_of(f, &[32, 70]) | is_multiple(u, r))
 }
 
 // "58-62 unused count U, spaces meaning 0, below B; 0 if unblocked; for F a multiple of R." 23, 40 and 54 are right.

@@ -14,7 +14,7 @@ use finding::slot_named;
 use relabel::store_slot;
 use standard::{Address, Created, Geometry, Refusal};
 use vacancy::{lowest_deleted, lowest_run};
-use volume::judge;
+use volume::{judge, refusal_of};
 
 // What an accepted create does: the slot of the new label, and the number, from 0, of its file's first address.
 #[derive(Clone, Copy)]
@@ -67,7 +67,10 @@ pub fn carry_out(g: Geometry, image: &mut [u8], wanted: &[u8], n: u64, slot: u64
 pub fn create(image: &mut [u8], wanted: &[u8], n: u64) -> Result<Created, Refusal>
     ensures { (result ≡ created image.old wanted.now n) × (image.new ≡ image_after_create image.old wanted.now n) }
 {
-    let g = judge(image)?;
+    let verdict = judge(image);
+    let Ok(g) = verdict else {
+        return Err(refusal_of(verdict));
+    };
     let p = plan_in(g, image, wanted, n)?;
     let slot = p.slot;
     let start = carry_out(g, image, wanted, n, slot, p.first);

@@ -12,7 +12,7 @@ use finding::{known_file, unprotected};
 use relabel::store_slot;
 use standard::{Geometry, Refusal};
 use vacancy::size_in;
-use volume::judge;
+use volume::{judge, refusal_of};
 
 // "delete gives 13, 14, 24": the first of them that is given. (Inner, for layers above: on an accepted volume.)
 pub fn plan_out(g: Geometry, image: &[u8], slot: u64) -> Result<(), Refusal>
@@ -36,7 +36,10 @@ pub fn drop_label(g: Geometry, image: &mut [u8], slot: u64) -> u64
 pub fn delete(image: &mut [u8], slot: u64) -> Result<u64, Refusal>
     ensures { (result ≡ deleted image.old slot) × (image.new ≡ image_after_delete image.old slot) }
 {
-    let g = judge(image)?;
+    let verdict = judge(image);
+    let Ok(g) = verdict else {
+        return Err(refusal_of(verdict));
+    };
     plan_out(g, image, slot)?;
     Ok(drop_label(g, image, slot))
 }

@@ -52,10 +52,10 @@ pub fn is_hex(c: u64) -> bool
 }
 
 // One of the characters given.
-pub fn one_of(c: u64, xs: &[u8]) -> bool
+pub fn one_of(c: u64, xs: &[u64]) -> bool
     ensures { result ≡ one_of xs.now c }
 {
-    xs.iter().any(|&x| c == u64::from(x))
+    xs.iter().any(|&x| c == x)
 }
 
 // Whether every character of a field is a space, of the a-set, a hex digit.

@@ -16,7 +16,7 @@ use labels::{
 };
 use layout::label_at;
 use standard::{Address, Geometry, Refusal};
-use volume::judge;
+use volume::{judge, refusal_of};
 
 // What a label says of its file, with what follows from it: m, "blocks take m good records in turn"; the extent, from `start` on `size` addresses; whether the
 // data end lies `inside` it; and how many addresses lie `before` the data end.
@@ -149,6 +149,9 @@ pub fn count_in(g: Geometry, image: &[u8], slot: u64) -> Result<u64, Refusal>
 pub fn count(image: &[u8], slot: u64) -> Result<u64, Refusal>
     ensures { result ≡ counted image.now slot }
 {
-    let g = judge(image)?;
+    let verdict = judge(image);
+    let Ok(g) = verdict else {
+        return Err(refusal_of(verdict));
+    };
     count_in(g, image, slot)
 }

@@ -16,7 +16,7 @@ use index::{is_known, is_label};
 use labels::{known_level, name_is};
 use layout::{label_at, label_offset, slot_count};
 use standard::{Found, Geometry, Refusal};
-use volume::judge;
+use volume::{judge, refusal_of};
 
 // Whether a slot of the volume has a label. (For layers above: any slot, on an accepted volume.)
 pub fn has_label(g: Geometry, image: &[u8], slot: u64) -> bool
@@ -95,7 +95,10 @@ fn unfound() -> Result<Found, Refusal>
 pub fn find(image: &[u8], name: &[u8]) -> Result<Found, Refusal>
     ensures { result ≡ found image.now name.now }
 {
-    let g = judge(image)?;
+    let verdict = judge(image);
+    let Ok(g) = verdict else {
+        return Err(refusal_of(verdict));
+    };
     let Some(bearer) = slot_named(g, image, name) else {
         return unfound();
     };
@@ -108,7 +111,10 @@ pub fn find(image: &[u8], name: &[u8]) -> Result<Found, Refusal>
 pub fn find_slot(image: &[u8], slot: u64) -> Result<Found, Refusal>
     ensures { result ≡ found_at image.now slot }
 {
-    let g = judge(image)?;
+    let verdict = judge(image);
+    let Ok(g) = verdict else {
+        return Err(refusal_of(verdict));
+    };
     if has_label(g, image, slot) {
         return Ok(Found {
             slot,

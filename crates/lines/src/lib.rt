@@ -21,7 +21,7 @@ use layout::{index_body, label_at, slot_count};
 use standard::{Geometry, Refusal};
 use text::Text;
 use vacancy::free_in;
-use volume::judge;
+use volume::{judge, refusal_of};
 
 // The numbers of the volume line.
 fn put_numbers(text: &mut Text, g: Geometry)
@@ -220,10 +220,11 @@ fn put_listing(text: &mut Text, image: &[u8])
     if 65536 < image.len() {
         return text.bytes(b"TOO LONG\n");
     }
-    match judge(image) {
-        Ok(g) => volume_lines(text, g, image),
-        Err(r) => refused_line(text, r),
-    }
+    let verdict = judge(image);
+    let Ok(g) = verdict else {
+        return refused_line(text, refusal_of(verdict));
+    };
+    volume_lines(text, g, image);
 }
 
 // The listing of an image, into a lent buffer: as much of the text as there is room for; every byte behind it stays. The answer is the text's length, so a buffer of

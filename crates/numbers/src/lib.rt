@@ -51,16 +51,16 @@ fn vol1_fault_from_72(v: &[u8]) -> Option<u64>
     requires { length v.now ≡ 128 }
     ensures { result ≡ fault_in (lowest_fault (drop 4 (vol1_rules v.now))) }
 {
-    if !one_of(u64::from(v[71]), b"A") {
+    if !one_of(u64::from(v[71]), &[65]) {
         return Some(72);
     }
-    if !one_of(u64::from(v[75]), b" 123") {
+    if !one_of(u64::from(v[75]), &[32, 49, 50, 51]) {
         return Some(76);
     }
     if !spaces_or_number(1, 13, &v[76..78]) {
         return Some(77);
     }
-    if !one_of(u64::from(v[79]), b"3") {
+    if !one_of(u64::from(v[79]), &[51]) {
         return Some(80);
     }
     vol1_fault_from_81(v)

@@ -19,7 +19,7 @@ use finding::known_file;
 use labels::{Form, form_of, is_blocked};
 use layout::label_at;
 use standard::{Geometry, Place, Refusal};
-use volume::judge;
+use volume::{judge, refusal_of};
 
 // The numbers of an opened file: its volume's, its slot, a cursor on its extent's start, whether every record of the extent is good; "40 space or F (fixed),
 // V, S"; "63 space, or B for blocked"; m, "blocks take m good records in turn"; B, R and U by the document's letters; and the number of its blocks.
@@ -192,7 +192,10 @@ pub struct Stage {
 pub fn begin(image: &[u8], slot: u64) -> Result<Stage, Refusal>
     ensures { Staged image.now slot result }
 {
-    let g = judge(image)?;
+    let verdict = judge(image);
+    let Ok(g) = verdict else {
+        return Err(refusal_of(verdict));
+    };
     let file = open_in(g, image, slot)?;
     Ok(Stage {
         file,

@@ -101,13 +101,13 @@ fn fault_from_41(g: Geometry, h: &[u8], x: Seen) -> Option<u64>
     requires { (length h.now ≡ 128) × Held g h.now x }
     ensures { result ≡ fault_in (lowest_fault (drop 5 (known_rows g h.now))) }
 {
-    if !one_of(u64::from(h[40]), b" B") {
+    if !one_of(u64::from(h[40]), &[32, 66]) {
         return Some(41);
     }
     if !in_a_set(u64::from(h[41])) {
         return Some(42);
     }
-    if !one_of(u64::from(h[42]), b" P") {
+    if !one_of(u64::from(h[42]), &[32, 80]) {
         return Some(43);
     }
     if !x.right44 {
@@ -121,7 +121,7 @@ fn fault_from_45(g: Geometry, h: &[u8], x: Seen) -> Option<u64>
     requires { (length h.now ≡ 128) × Held g h.now x }
     ensures { result ≡ fault_in (lowest_fault (drop 9 (known_rows g h.now))) }
 {
-    if !one_of(u64::from(h[44]), b" CL") {
+    if !one_of(u64::from(h[44]), &[32, 67, 76]) {
         return Some(45);
     }
     if !spaces_or_number(1, 99, &h[45..47]) {
@@ -157,7 +157,7 @@ fn fault_from_64(g: Geometry, h: &[u8], start: u64) -> Option<u64>
     requires { (length h.now ≡ 128) × (start ≡ rank g (start_of h.now)) × (rule29 g h.now ≡ true) }
     ensures { result ≡ fault_in (lowest_fault (drop 15 (known_rows g h.now))) }
 {
-    if !one_of(u64::from(h[63]), b" S") {
+    if !one_of(u64::from(h[63]), &[32, 83]) {
         return Some(64);
     }
     if !expiry_right(h) {

@@ -11,6 +11,13 @@ use native.Mathlib.Numerals.{add-one}
 use Rattle.text.specs.declared.Text.{Text}
 use Rattle.text.specs.Laid.{laid, Puts, Writes}
 
+pub laid_length : (out : List ℕ) (at : ℕ) (text : List ℕ) → length (laid out at text) ≡ length out
+unfolding laid
+laid_length [] at text = refl
+laid_length (x ∷ out) zero [] = refl
+laid_length (x ∷ out) zero (c ∷ text) = ap suc (laid_length out zero text)
+laid_length (x ∷ out) (suc at) text = ap suc (laid_length out at text)
+
 pub laid_nothing : (out : List ℕ) (at : ℕ) → laid out at [] ≡ out
 unfolding laid
 laid_nothing [] at = refl
@@ -53,6 +60,10 @@ puts_more {out = out} {out' = out'} {at = at} {s = s} {t = t} h k =
       next = omega (arith, h.next, k.next, length-append s t);
       stands = k.stands ∙ ap (λ (n : ℕ). laid out' n t) h.next ∙ ap (λ (u : List ℕ). laid u (at + length s) t) h.stands ∙ laid_more out at s t;
     }
+
+-- what was put has the buffer's length
+pub puts_length : {out out' : List ℕ} {at r : ℕ} {text : List ℕ} → Puts out out' at r text → length out' ≡ length out
+puts_length {out = out} {at = at} {text = text} h = ap length h.stands ∙ laid_length out at text
 
 pub puts_none : (out : List ℕ) (at : ℕ) → Puts out out at at []
 puts_none out at = record { next = omega arith; stands = sym (laid_nothing out at) }

@@ -19,7 +19,7 @@ use fields::{minus, times};
 use index::{Extent, extent_in, is_label};
 use layout::slot_count;
 use standard::{Geometry, Refusal};
-use volume::judge;
+use volume::{judge, refusal_of};
 
 // All data addresses of the volume.
 fn addresses(g: Geometry) -> u64
@@ -60,7 +60,10 @@ pub fn free_in(g: Geometry, image: &[u8]) -> u64
 pub fn free(image: &[u8]) -> Result<u64, Refusal>
     ensures { result ≡ free_count image.now }
 {
-    let g = judge(image)?;
+    let verdict = judge(image);
+    let Ok(g) = verdict else {
+        return Err(refusal_of(verdict));
+    };
     Ok(free_in(g, image))
 }
 

@@ -1,4 +1,4 @@
-// The judgement of a volume, refusals 1 to 12. What a customer calls has no `requires`.
+// The judgement of a volume, refusals 1 to 12, and what a refused volume says to a file call. What a customer calls has no `requires`.
 #![tactic(auto)]
 
 ghost use Rattle.std.specs.Prelude.{◌≡◌, ◌≤◌, length};
@@ -8,7 +8,7 @@ ghost use Rattle.standard.specs.Layout.{vol1_of, image_length};
 ghost use Rattle.standard.specs.Judgement.{judged, volume_of};
 ghost use Rattle.numbers.specs.Numbers.{bare};
 ghost use Rattle.index.specs.Whole.{Whole};
-ghost use Rattle.volume.specs.Stages.{judged_from};
+ghost use Rattle.volume.specs.Stages.{judged_from, refusal_of};
 
 use index::{named, shared, slots};
 use layout::{image_length, index_body, index_kind, kinds};
@@ -68,7 +68,7 @@ fn judge_vol1(image: &[u8]) -> Result<Geometry, Refusal>
     judge_sectors(vol1_numbers(v), image)
 }
 
-// "Volume order is 1 to 12": the first of these refusals, or the volume's numbers. ("A file call stops at the first refusal of the volume": by `?`.)
+// "Volume order is 1 to 12": the first of these refusals, or the volume's numbers.
 pub fn judge(image: &[u8]) -> Result<Geometry, Refusal>
     ensures { result ≡ judged image.now }
 {
@@ -82,4 +82,15 @@ pub fn judge(image: &[u8]) -> Result<Geometry, Refusal>
         return Err(Refusal::at(2, 7));
     }
     judge_vol1(image)
+}
+
+// What stops a file call: "A file call stops at the first refusal of the volume." (Inner: every file call asks it behind `let .. else`, of a refused volume
+// alone. There is no refusal 0: it stands for an accepted one.)
+pub fn refusal_of(verdict: Result<Geometry, Refusal>) -> Refusal
+    ensures { result ≡ refusal_of verdict }
+{
+    let Err(refusal) = verdict else {
+        return Refusal::at(0, 0);
+    };
+    refusal
 }

@@ -26,7 +26,7 @@ use opening::usable;
 use relabel::set_label;
 use sizing::{first_wrong, level_after, sums_to};
 use standard::{Address, Geometry, Refusal};
-use volume::judge;
+use volume::{judge, refusal_of};
 
 // What an accepted write does: the extent from its start on, how its records are laid, the number of blocks, and U and the data end as they will stand.
 #[derive(Clone, Copy)]
@@ -158,7 +158,10 @@ fn plan_in(
 pub fn write(image: &mut [u8], slot: u64, bodies: &[u8], lengths: &[u32]) -> Result<u64, Refusal>
     ensures { (result ≡ written image.old slot bodies.now lengths.now) × (image.new ≡ image_after image.old slot bodies.now lengths.now) }
 {
-    let g = judge(image)?;
+    let verdict = judge(image);
+    let Ok(g) = verdict else {
+        return Err(refusal_of(verdict));
+    };
     let p = plan_in(g, image, slot, bodies, lengths)?;
     carry_out(g, image, slot, p, bodies, lengths);
     Ok(p.blocks)

@@ -25,6 +25,11 @@ returns-in-Some-slot_named c =
     let s = slot_found _ _ (sym c.slot_named.ensures.0 ∙ c.in-Some-slot_named.is) in
     ap Err c.at.ensures ∙ plan_12 _ _ _ _ _ (faultless _ c.in_default.is c.proposal_fault.ensures) s.0 (omega (arith, s.0, s.1))
 
+-- From here on no label has the name. `slot_missed` makes of the answer of
+-- `slot_named` what the definition says there, which is 0, and no slot is 0.
+-- That n is at least 1, which `room_in` asks for, is what 10 has shown
+-- (`plan_some`).
+
 pub room_in-requires : goal.room_in-requires
 room_in-requires c =
     let a = c.args in

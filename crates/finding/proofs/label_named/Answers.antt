@@ -22,6 +22,9 @@ returns-in_default-slot_named c =
     let e = c.nothing-in_default-slot_named.ensures in
     (e ∙ no_label_named _ _ _ j none, hands_nothing _ _ _ _ (not_found _ _ _ j none) e)
 
+-- From here on a label has the name: `slot` is its slot, and no slot is 0,
+-- which is what the definition says where no label has it.
+
 pub label_at-requires : goal.label_at-requires
 label_at-requires c =
     let s = c.slot_named.ensures in
